@@ -14,11 +14,9 @@ use Rattle.gmap.specs.Building.{Pair, given, turned, moved, Fits, joinChecks}
 use Rattle.gmap.specs.Listing.{Among}
 use Rattle.gmap.specs.Outcome.{Passes}
 use Rattle.gmap.proofs.Outcomes.{passes-both}
-use Rattle.questions.specs.Search.{Collected}
 use Rattle.building.specs.Mates.{Joinable, OnSides, Matched}
 use Rattle.building.specs.Tying.{Ready, PairsOf, Tieable}
 use Rattle.building.proofs.Couples.{pair-sym, pair-apart, pair-live, pair-side, side-pair}
-use Rattle.building.proofs.Sides.{front, collected-front, front-few, side, side-only}
 
 module _ (m : Map) (i t u : ℕ) where
   pub joinable : Passes (tieChecks m i t u) → Joinable m i t u
@@ -43,31 +41,35 @@ module _ (m : Map) (i t u : ℕ) where
     pub ready-fits : Fits m i t u
     ready-fits = record { single = λ x y z p q. sym (r .matched .all x y p) ∙ r .matched .all x z q; loose = λ x y p. r .free x (pair-side m i t u p) }
 
-    abbrev xs : List ℕ
-    xs = front m (Far i) t n left (r .side)
-
-    o : Collected m (Far i) t (length xs) xs
-    o = collected-front m (Far i) t n left (r .side)
-
     pair-of : (x : ℕ) → FarOrbit m i t x → Pair m i t u x (getD ms x 0)
     pair-of x a = let (y, p) = side-pair m i t u (inl a) in subst (Pair m i t u x) (sym (r .matched .all x y p)) p
 
-    pub ready-tieable : length left ≡ m .size → Tieable m i xs ms
+    pair-at : (k : ℕ) → k < n → Pair m i t u (getD left k 0) (getD ms (getD left k 0) 0)
+    pair-at k h = pair-of (getD left k 0) (r .side .only k h)
+
+    pub ready-tieable : length left ≡ m .size → Tieable m i left n ms
     ready-tieable long =
         record {
-          side = side m i t xs o law (able .switch) (able .left) (omega (arith, front-few m (Far i) t n left (r .side)));
+          switch = able .switch;
+          some = r .side .some;
+          fits = r .side .fits;
+          few = omega (arith, r .side .fits);
           long = r .matched .long;
-          mate = λ k h. pair-live m i t u law (able .left) (able .right) (pair-sym m i t u (pair-of (getD xs k 0) (o .only k h)));
-          apart = λ k h. pair-apart m i t u law (able .apart) (pair-of (getD xs k 0) (o .only k h));
-          back = λ k h. r .matched .all (getD ms (getD xs k 0) 0) (getD xs k 0) (pair-sym m i t u (pair-of (getD xs k 0) (o .only k h)));
-          free = λ k h. r .free (getD xs k 0) (inl (o .only k h));
-          mate-free = λ k h. r .free (getD ms (getD xs k 0) 0) (pair-side m i t u (pair-sym m i t u (pair-of (getD xs k 0) (o .only k h))));
+          live = λ k h. pair-live m i t u law (able .left) (able .right) (pair-at k h);
+          mate = λ k h. pair-live m i t u law (able .left) (able .right) (pair-sym m i t u (pair-at k h));
+          apart = λ k h. pair-apart m i t u law (able .apart) (pair-at k h);
+          back = λ k h. r .matched .all (getD ms (getD left k 0) 0) (getD left k 0) (pair-sym m i t u (pair-at k h));
+          free = λ k h. r .free (getD left k 0) (pair-side m i t u (pair-at k h));
+          mate-free = λ k h. r .free (getD ms (getD left k 0) 0) (pair-side m i t u (pair-sym m i t u (pair-at k h)));
         }
 
-    pub pairs-only : (x y : ℕ) → PairsOf xs (length xs) ms x y → Pair m i t u x y
-    pairs-only x y = ⊎-elim
-        (λ (a, e). subst (Pair m i t u x) e (pair-of x (side-only m i t xs o x a)))
-        (λ (a, e). pair-sym m i t u (subst (Pair m i t u y) e (pair-of y (side-only m i t xs o y a))))
+    only : (x : ℕ) → Among left n x → FarOrbit m i t x
+    only x (k, h, e) = subst (FarOrbit m i t) e (r .side .only k h)
 
-    pub pairs-all : (x y : ℕ) → Pair m i t u x y → PairsOf xs (length xs) ms x y
-    pairs-all x y p = ⊎-elim (λ a. inl (o .all x a, r .matched .all x y p)) (λ a. inr (o .all y a, r .matched .all y x (pair-sym m i t u p))) (pair-left p)
+    pub pairs-only : (x y : ℕ) → PairsOf left n ms x y → Pair m i t u x y
+    pairs-only x y = ⊎-elim
+        (λ (a, e). subst (Pair m i t u x) e (pair-of x (only x a)))
+        (λ (a, e). pair-sym m i t u (subst (Pair m i t u y) e (pair-of y (only y a))))
+
+    pub pairs-all : (x y : ℕ) → Pair m i t u x y → PairsOf left n ms x y
+    pairs-all x y p = ⊎-elim (λ a. inl (r .side .all x a, r .matched .all x y p)) (λ a. inr (r .side .all y a, r .matched .all y x (pair-sym m i t u p))) (pair-left p)

@@ -23,7 +23,7 @@ pub tie-like : (m : Map) (i : ℕ) (R Q : ℕ → ℕ → Type 0) (n : ℕ) (m�
 tie-like m i R Q n m′ to fro s =
     record { frame = s .frame; ties = λ x y q. s .ties x y (fro x y q); rest = λ x q. s .rest x (λ y r. q y (to x y r)); count = counts-like _ _ n (λ x (y, r, l). (y, to x y r, l)) (λ x (y, q, l). (y, fro x y q, l)) (s .count) }
 
-module _ (m : Map) (i : ℕ) (xs ms : List ℕ) (able : Tieable m i xs ms) (k : ℕ) (below : k < length xs) (n : ℕ) (now : Map) (s : AllTied m i (PairsOf xs k ms) n now) where
+module _ (m : Map) (i : ℕ) (xs ms : List ℕ) (c : ℕ) (able : Tieable m i xs c ms) (k : ℕ) (below : k < c) (n : ℕ) (now : Map) (s : AllTied m i (PairsOf xs k ms) n now) where
   abbrev x : ℕ
   x = getD xs k 0
 
@@ -84,7 +84,7 @@ module _ (m : Map) (i : ℕ) (xs ms : List ℕ) (able : Tieable m i xs ms) (k : 
   pub tie-skip : (Free now i x → ⊥) → AllTied m i After n now
   tie-skip linked =
       let b : Before x y = ⊎-elim (λ p. p) (λ p. absurd (linked (free-x p))) met in
-      let back : (a c : ℕ) → After a c → Before a c = λ a c q. ⊎-elim (λ p. p) (⊎-elim (λ (e, f). rw (e, f) b) (λ (e, f). rw (e, f) (turn x y b))) (splits a c q) in
+      let back : (a d : ℕ) → After a d → Before a d = λ a d q. ⊎-elim (λ p. p) (⊎-elim (λ (e, f). rw (e, f) b) (λ (e, f). rw (e, f) (turn x y b))) (splits a d q) in
       tie-like m i Before After n now grows back s
 
   module _ (new : Before x y → ⊥) (next : Map) (same : Same next (tied now i x y)) where

@@ -15,7 +15,6 @@ use Rattle.gmap.specs.Listing.{Among}
 use Rattle.questions.specs.Marks.{Marked}
 use Rattle.questions.specs.Search.{Collected}
 use Rattle.building.specs.Mates.{OnSides, Matched}
-use Rattle.building.specs.Sides.{Side}
 
 pub record Collectable (m : Map) (i t : ℕ) (list places ms : List ℕ) : Type 0 where
   pub switch : i ≤ m .top
@@ -36,11 +35,15 @@ pub record Ready (m : Map) (i t u n : ℕ) (left ms : List ℕ) : Type 0 where
 abbrev pub PairsOf : List ℕ → ℕ → List ℕ → ℕ → ℕ → Type 0
 PairsOf xs n ms x y = (Among xs n x × (getD ms x 0 ≡ y)) ⊎ (Among xs n y × (getD ms y 0 ≡ x))
 
-pub record Tieable (m : Map) (i : ℕ) (xs ms : List ℕ) : Type 0 where
-  pub side : Side m i xs
+pub record Tieable (m : Map) (i : ℕ) (xs : List ℕ) (n : ℕ) (ms : List ℕ) : Type 0 where
+  pub switch : i ≤ m .top
+  pub some : 0 < n
+  pub fits : n ≤ length xs
+  pub few : n ≤ m .size
   pub long : length ms ≡ m .size
-  pub mate : (k : ℕ) → k < length xs → m .live (getD ms (getD xs k 0) 0) ≡ true
-  pub apart : (k : ℕ) → k < length xs → getD xs k 0 ≡ getD ms (getD xs k 0) 0 → ⊥
-  pub back : (k : ℕ) → k < length xs → getD ms (getD ms (getD xs k 0) 0) 0 ≡ getD xs k 0
-  pub free : (k : ℕ) → k < length xs → Free m i (getD xs k 0)
-  pub mate-free : (k : ℕ) → k < length xs → Free m i (getD ms (getD xs k 0) 0)
+  pub live : (k : ℕ) → k < n → m .live (getD xs k 0) ≡ true
+  pub mate : (k : ℕ) → k < n → m .live (getD ms (getD xs k 0) 0) ≡ true
+  pub apart : (k : ℕ) → k < n → getD xs k 0 ≡ getD ms (getD xs k 0) 0 → ⊥
+  pub back : (k : ℕ) → k < n → getD ms (getD ms (getD xs k 0) 0) 0 ≡ getD xs k 0
+  pub free : (k : ℕ) → k < n → Free m i (getD xs k 0)
+  pub mate-free : (k : ℕ) → k < n → Free m i (getD ms (getD xs k 0) 0)

@@ -7,7 +7,7 @@ ghost use lib.ListN.{length};
 ghost use Rattle.std.specs.Orderings.{When};
 ghost use Rattle.gmap.specs.Asking.{Short};
 ghost use Rattle.gmap.specs.Listing.{Among};
-ghost use Rattle.questions.specs.Search.{Kept, Added, Spread, Gathered};
+ghost use Rattle.questions.specs.Search.{Kept, Added, Spread, Collected, Gathered};
 ghost use Rattle.questions.specs.Via.{via};
 
 pub mod cells;
@@ -92,4 +92,20 @@ impl Found<'_> {
             done += 1;
         }
     }
+}
+
+// Collects the orbit of t under the switches in front of the list, and answers how many tuples it has.
+fn collect<C: GMap>(map: &C, switches: Switches, t: u16, list: &mut [u16], places: &mut [u16]) -> u16
+    requires live { ⌜ C·Reads .meaning (now map) .live t ≡ true ⌝ }
+    requires room { ⌜ length (now list) ≡ C·Reads .meaning (now map) .size ⌝ }
+    requires places { ⌜ length (now list) ≤ length (now places) ⌝ }
+    ensures { λ r. ⌜ Collected (C·Reads .meaning (now (map .entry))) (via switches) t r (now (list .exit)) ⌝ }
+{
+    let mut found = Found {
+        list,
+        places,
+        count: 0,
+    };
+    found.gather(map, switches, t);
+    found.count
 }

@@ -1,39 +1,33 @@
 -- Bytes cut at a separator, byte by byte and piece by piece.
 use mathlib.Core.Path.{_≡_, refl, sym, ap, _∙_}
-use mathlib.Core.Bool.{cond, true, false}
 use mathlib.Core.List.{List, [], _∷_, _++_}
-use mathlib.Core.Logic.{inl, inr, ⊎-elim}
-use Prim.Native.Nat.{ℕ, _≤_, _<_, _+_, _-_}
+use mathlib.Core.Logic.{inl, inr}
+use Prim.Native.Nat.{ℕ, _<_, _+_, _-_}
 use native.Mathlib.Nat.{add-zero}
 use native.Mathlib.Omega.{arith}
-use lib.Dec.{eqb}
 use lib.ListN.{length, getD, take, drop}
 use Rattle.std.specs.shelf.Lists.{All}
 use Rattle.std.proofs.shelf.Elements.{all-more}
 use Rattle.std.proofs.shelf.Lists.{take-rest, take-all, drop-drop, length-drop, getD-drop, nil-from-length, take-append-drop}
 use Rattle.std.proofs.shelf.Parts.{first-rest}
-use Rattle.std.proofs.shelf.Tests.{eq-eqb, ne-eqb, cond-both}
-use Rattle.reading.specs.Pieces.{before, behind, onto, pieces, Parted}
+use Rattle.std.proofs.shelf.Ways.{tells}
+use Rattle.reading.specs.Pieces.{before, behind, pieces, Parted}
 
 -- c is not b
 abbrev Other : ℕ → ℕ → Type 0
 Other b c = c ≡ b → ⊥
 
 cut-at : (b : ℕ) (front back : List ℕ) → All (Other b) front → (front ≡ before b (front ++ (b ∷ back))) × (back ≡ behind b (front ++ (b ∷ back)))
-cut-at b [] back none = let e = eq-eqb b b refl in (rw e, rw e)
-cut-at b (c ∷ front) back none = let e = ne-eqb c b (none .0) in let more = cut-at b front back (none .1) in (rw e (ap (λ l. c ∷ l) (more .0)), rw e (more .1))
+cut-at b [] back none = grind (arith, tells)
+cut-at b (c ∷ front) back none = let more = cut-at b front back (none .1) in grind (arith, tells)
 
 cut-none : (b : ℕ) (front : List ℕ) → All (Other b) front → (front ≡ before b front) × ([] ≡ behind b front)
 cut-none b [] none = (refl, refl)
-cut-none b (c ∷ front) none = let e = ne-eqb c b (none .0) in let more = cut-none b front (none .1) in (rw e (ap (λ l. c ∷ l) (more .0)), rw e (more .1))
+cut-none b (c ∷ front) none = let more = cut-none b front (none .1) in grind (arith, tells)
 
 -- one place at most is the first
 pub parted-is : (b : ℕ) (s front back : List ℕ) → Parted b s front back → (front ≡ before b s) × (back ≡ behind b s)
-parted-is b s front back h =
-    ⊎-elim
-    (λ e. let cut = cut-at b front back (h .none) in (cut .0 ∙ ap (before b) e, cut .1 ∙ ap (behind b) e))
-    (λ e. let cut = cut-none b front (h .none) in (cut .0 ∙ ap (before b) (e .0), e .1 ∙ cut .1 ∙ ap (behind b) (e .0)))
-    (h .whole)
+parted-is b s front back h = let at = cut-at b front back (h .none) in let none = cut-none b front (h .none) in grind arith
 
 -- the first n bytes of s hold no b, and t is what is left
 pub record Cutting (b n : ℕ) (s t : List ℕ) : Type 0 where
@@ -66,13 +60,11 @@ cutting-end b n s t h end = record { whole = inr (refl, nil-from-length t end); 
 
 pub length-behind : (b : ℕ) (s : List ℕ) → 0 < length s → length (behind b s) < length s
 length-behind b [] h = absurd (omega arith)
-length-behind b (c ∷ []) h = cond-both (eqb c b) [] [] (λ l. length l < length (c ∷ [])) (λ _. omega arith) (λ _. omega arith)
-length-behind b (c ∷ d ∷ cs) h = cond-both (eqb c b) (d ∷ cs) (behind b (d ∷ cs)) (λ l. length l < length (c ∷ d ∷ cs)) (λ _. omega arith) (λ _. omega (arith, length-behind b (d ∷ cs) (omega arith)))
+length-behind b (c ∷ []) h = grind arith
+length-behind b (c ∷ d ∷ cs) h = let more = length-behind b (d ∷ cs) (omega arith) in grind arith
 
 -- the first piece, and the others
 pub pieces-step : (b : ℕ) (s : List ℕ) → 0 < length s → pieces b s ≡ before b s ∷ pieces b (behind b s)
 pieces-step b [] h = absurd (omega arith)
-pieces-step b (c ∷ []) h = elim (eqb c b) as (λ t. cond t ([] ∷ []) ((c ∷ []) ∷ []) ≡ cond t [] (c ∷ []) ∷ pieces b (cond t [] [])) [ true ↦ refl | false ↦ refl ]
-pieces-step b (c ∷ d ∷ cs) h =
-    let more = pieces-step b (d ∷ cs) (omega arith) in
-    elim (eqb c b) as (λ t. cond t ([] ∷ pieces b (d ∷ cs)) (onto c (pieces b (d ∷ cs))) ≡ cond t [] (c ∷ before b (d ∷ cs)) ∷ pieces b (cond t (d ∷ cs) (behind b (d ∷ cs)))) [ true ↦ refl | false ↦ ap (onto c) more ]
+pieces-step b (c ∷ []) h = grind arith
+pieces-step b (c ∷ d ∷ cs) h = let more = pieces-step b (d ∷ cs) (omega arith) in grind arith

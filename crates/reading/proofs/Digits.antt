@@ -1,6 +1,6 @@
 -- A word's number comes from the number of its leading bytes.
-use mathlib.Core.Path.{_≡_, refl, sym, ap, _∙_}
-use mathlib.Core.Bool.{Bool, cond, true, false, _&&_, and-true, and-assoc}
+use mathlib.Core.Path.{_≡_, refl}
+use mathlib.Core.Bool.{Bool, cond, _&&_, and-true}
 use mathlib.Core.List.{List, [], _∷_}
 use Prim.Native.Nat.{ℕ, zero, suc, _+_, _-_, _*_, _≤_}
 use native.Mathlib.Omega.{arith}
@@ -23,7 +23,7 @@ digits-last [] k e = absurd (omega arith)
 digits-last (c ∷ []) zero e = and-true _
 digits-last (c ∷ []) (suc k) e = absurd (omega arith)
 digits-last (c ∷ d ∷ w) zero e = absurd (omega arith)
-digits-last (c ∷ d ∷ w) (suc k) e = ap (λ b. isSome (digitOf c) && b) (digits-last (d ∷ w) k (omega arith)) ∙ sym (and-assoc (isSome (digitOf c)) _ _)
+digits-last (c ∷ d ∷ w) (suc k) e = let more = digits-last (d ∷ w) k (omega arith) in grind arith
 
 -- a number with one more digit
 abbrev pub longer : Option ℕ → Option ℕ → Option ℕ

@@ -1,6 +1,5 @@
--- Lemmas, a file to a topic.
+-- Lemmas, a file to a topic. Cuts serves the crates above too.
 pub mod Cuts
-pub mod Digits
-pub mod Lines
-pub mod Firsts
-pub mod Forms
+mod Digits
+mod Lines
+mod Firsts

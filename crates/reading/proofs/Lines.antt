@@ -6,10 +6,10 @@ use native.Mathlib.Omega.{arith}
 use lib.ListN.{length}
 use Rattle.std.specs.shelf.Lists.{All}
 use Rattle.std.proofs.shelf.Elements.{all-push}
-use Rattle.std.proofs.shelf.Lists.{map-push, nil-from-length}
+use Rattle.std.proofs.shelf.Lists.{map-push}
 use Rattle.reading.specs.declared.word.Part.{Part}
 use Rattle.reading.specs.declared.word.Word.{Word}
-use Rattle.reading.specs.Pieces.{before, behind, pieces, filled, wordsOf}
+use Rattle.reading.specs.Pieces.{before, behind, pieces, wordsOf}
 use Rattle.reading.specs.Words.{Sense, names, orders, counts, nothing, senseOf, saidBy, wordOf, sense, partOf, textOf, lineOf, Reads}
 use Rattle.reading.proofs.Cuts.{pieces-step}
 
@@ -26,14 +26,10 @@ part-saidBy (counts n) p = refl
 part-saidBy nothing p = refl
 
 words-empty : (l : List ℕ) → 0 < length l → length (before 32 l) ≡ 0 → wordsOf l ≡ wordsOf (behind 32 l)
-words-empty l some none = ap filled (pieces-step 32 l some ∙ ap (λ p. p ∷ pieces 32 (behind 32 l)) (nil-from-length (before 32 l) none))
-
-filled-some : (p : List ℕ) (ps : List (List ℕ)) → 0 < length p → filled (p ∷ ps) ≡ p ∷ filled ps
-filled-some [] ps h = absurd (omega arith)
-filled-some (c ∷ p) ps h = refl
+words-empty l some none = let step = pieces-step 32 l some in grind arith
 
 words-some : (l : List ℕ) → 0 < length l → 0 < length (before 32 l) → wordsOf l ≡ before 32 l ∷ wordsOf (behind 32 l)
-words-some l some more = ap filled (pieces-step 32 l some) ∙ filled-some (before 32 l) (pieces 32 (behind 32 l)) more
+words-some l some more = let step = pieces-step 32 l some in grind arith
 
 -- ws are the words of the front of the line l, and t is what is left
 pub record Reading (n : ℕ) (ws : List Word) (t l : List ℕ) : Type 0 where

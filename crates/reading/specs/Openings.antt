@@ -42,6 +42,7 @@ abbrev pub openedOf : List Sense → Option Opening
 openedOf [] = None
 openedOf (s ∷ ss) = both (λ k p. record { kind = k; top = p .0; size = p .1 }) (named s) (twoOf ss)
 
+-- the opening, held to its bounds
 abbrev pub bounded : Option Opening → Result Opening Refusal
 bounded None = Err Malformed
 bounded (Some o) = cond (leb (o .top) 7 && leb (o .size) 1024) (Ok o) (Err Oversize)

@@ -54,10 +54,12 @@ ordered (orders c) = Some c
 ordered (counts n) = None
 ordered nothing = None
 
+-- the request of a first word that is a command
 abbrev pub begunOf : Option Command → List Sense → Option Request
 begunOf None ss = None
 begunOf (Some c) ss = filledOf c ss
 
+-- the request that words ask for, if they do
 abbrev pub askedOf : List Sense → Option Request
 askedOf [] = None
 askedOf (s ∷ ss) = begunOf (ordered s) ss

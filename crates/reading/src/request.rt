@@ -1,11 +1,14 @@
 // What a line asks for: a command with just its numbers.
 ghost use mathlib.Core.Path.{_≡_};
 ghost use mathlib.Core.List.{map};
+ghost use Rattle.std.specs.Options.{Cases};
+ghost use Rattle.gmap.specs.Outcome.{Outcome};
 ghost use Rattle.reading.specs.Words.{sense};
-ghost use Rattle.reading.specs.Counts.{counted, oneOf, twoOf, threeOf};
-ghost use Rattle.reading.specs.Requests.{aloneOf, filledOf, ordered, askedOf, requestOf};
+ghost use Rattle.reading.specs.Counts.{oneOf, twoOf, threeOf};
+ghost use Rattle.reading.specs.Requests.{asks, requestChecks, filledOf, ordered, askedOf, requestOf};
 use crate::word::Command;
 use crate::word::Word;
+use crate::word::count;
 use gmap::refusal::Refusal;
 
 // A command with its numbers, which reach the library as the script has them.
@@ -21,16 +24,6 @@ pub enum Request {
     Whole,
 }
 
-// The number that a word is.
-fn count(word: &Word) -> Option<u16>
-    ensures { λ r. ⌜ r ≡ counted (sense (now (word .entry))) ⌝ }
-{
-    match word {
-        Word::Number(value, _) => Some(*value),
-        _ => None,
-    }
-}
-
 // Just one number.
 fn one(words: &[Word]) -> Option<u16>
     ensures { λ r. ⌜ r ≡ oneOf (map sense (now (words .entry))) ⌝ }
@@ -42,7 +35,7 @@ fn one(words: &[Word]) -> Option<u16>
 }
 
 // Just two numbers.
-pub fn two(words: &[Word]) -> Option<(u16, u16)>
+fn two(words: &[Word]) -> Option<(u16, u16)>
     ensures { λ r. ⌜ r ≡ twoOf (map sense (now (words .entry))) ⌝ }
 {
     let [first, rest @ ..] = words else {
@@ -61,16 +54,6 @@ fn three(words: &[Word]) -> Option<(u16, u16, u16)>
     let i = count(first)?;
     let (t, u) = two(rest)?;
     Some((i, t, u))
-}
-
-// A request that takes no numbers.
-fn alone(request: Request, words: &[Word]) -> Option<Request>
-    ensures { λ r. ⌜ r ≡ aloneOf request (map sense (now (words .entry))) ⌝ }
-{
-    match words {
-        [] => Some(request),
-        _ => None,
-    }
 }
 
 // The command that a word is.
@@ -103,14 +86,15 @@ fn fill(command: Command, words: &[Word]) -> Option<Request>
             Some(Request::Orbit(mask, t))
         }
         Command::Cells => Some(Request::Cells(one(words)?)),
-        Command::Lawful => alone(Request::Lawful, words),
-        Command::Whole => alone(Request::Whole, words),
+        Command::Lawful => words.is_empty().then_some(Request::Lawful),
+        Command::Whole => words.is_empty().then_some(Request::Whole),
     }
 }
 
 // The request that words are.
 fn ask(words: &[Word]) -> Option<Request>
-    ensures { λ r. ⌜ r ≡ askedOf (map sense (now (words .entry))) ⌝ }
+    ensures value { λ r. ⌜ r ≡ askedOf (map sense (now (words .entry))) ⌝ }
+    ensures form { λ r. ⌜ Cases r ((q : Request) → map sense (now (words .entry)) ≡ asks q → ⊥) (λ q. map sense (now (words .entry)) ≡ asks q) ⌝ }
 {
     let [first, rest @ ..] = words else {
         return None;
@@ -121,6 +105,7 @@ fn ask(words: &[Word]) -> Option<Request>
 // What the words of a line ask for.
 pub fn read_request(words: &[Word]) -> Result<Request, Refusal>
     ensures value { λ r. ⌜ r ≡ requestOf (map sense (now (words .entry))) ⌝ }
+    ensures outcome { λ r. ⌜ Outcome (requestChecks (map sense (now (words .entry)))) (λ q. map sense (now (words .entry)) ≡ asks q) (Unit {0}) r ⌝ }
 {
     ask(words).ok_or(Refusal::Malformed)
 }

@@ -3,7 +3,8 @@ ghost use mathlib.Core.Path.{_≡_};
 ghost use Rattle.std.specs.Of.Vec.{vec-items};
 ghost use Rattle.std.specs.Vec.{made};
 ghost use Rattle.std.specs.shelf.Text.{sameBytes};
-ghost use Rattle.reading.specs.Words.{kindOf, commandOf, wordOf, Reads};
+ghost use Rattle.reading.specs.Words.{kindOf, commandOf, wordOf, sense, Reads};
+ghost use Rattle.reading.specs.Counts.{counted};
 use crate::cut::split_first;
 use crate::number::number;
 use std::alloc::AllocError;
@@ -62,7 +63,7 @@ fn find_kind(bytes: &[u8]) -> Option<Kind>
     }
 }
 
-// The command that bytes name, matched by case.
+// The command that bytes name, in small letters.
 fn find_command(bytes: &[u8]) -> Option<Command>
     ensures { λ r. ⌜ r ≡ commandOf (now (bytes .entry)) ⌝ }
 {
@@ -100,6 +101,16 @@ fn read_word<'a>(part: Part<'a>) -> Word<'a>
     match number(part.bytes) {
         Some(value) => Word::Number(value, part),
         None => Word::Other(part),
+    }
+}
+
+// The number that a word is.
+pub fn count(word: &Word) -> Option<u16>
+    ensures { λ r. ⌜ r ≡ counted (sense (now (word .entry))) ⌝ }
+{
+    match word {
+        Word::Number(value, _) => Some(*value),
+        _ => None,
     }
 }
 

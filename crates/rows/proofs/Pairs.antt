@@ -59,27 +59,26 @@ module _ {m m′ : Map} {i t u a b : ℕ} (p : Paired m i t u a b m′) where
       (λ q. elim (pairing .from-two) [ inl e ↦ n (q .0, stays u q ∙ e) | inr e ↦ o (q .0, stays u q ∙ e) ])
       ∙ back j x))
 
-  pair-partner : (t ≡ u → ⊥) → (f g : ℕ → ℕ) → a ≡ f t → b ≡ g u → (j x : ℕ) → m′ .partner j x ≡ cond (eqb j i && eqb x t) (f x) (cond (eqb j i && eqb x u) (g x) (m .partner j x))
-  pair-partner apart f g is-a is-b =
-      by-place (λ j x. m′ .partner j x ≡ cond (eqb j i && eqb x t) (f x) (cond (eqb j i && eqb x u) (g x) (m .partner j x))) i t u
-      (rw (eq-eqb i i refl, eq-eqb t t refl) (p .one ∙ is-a))
-      (rw (eq-eqb i i refl, eq-eqb u u refl, ne-eqb u t (λ e. apart (sym e))) (p .two ∙ is-b))
-      (λ j x n o.
-      let not-at : (v : ℕ) → Off i v j x → (eqb j i && eqb x v) ≡ false = λ v h. grind (arith, tells) in
-      rw (not-at t n, not-at u o) (off-both j x n o))
+  -- the map after, by the partners of t and u as functions of the tuple
+  abbrev repaired : (ℕ → ℕ) → (ℕ → ℕ) → Map
+  repaired f g = record { size = m .size; top = m .top; live = m .live; partner = λ j x. cond (eqb j i && eqb x t) (f x) (cond (eqb j i && eqb x u) (g x) (m .partner j x)) }
+
+  pair-same : (t ≡ u → ⊥) → (f g : ℕ → ℕ) → a ≡ f t → b ≡ g u → Same m′ (repaired f g)
+  pair-same apart f g is-a is-b = record {
+    size = p .frame .size;
+    top = p .frame .top;
+    live = p .frame .live;
+    partner =
+        by-place (λ j x. m′ .partner j x ≡ repaired f g .partner j x) i t u
+        (rw (eq-eqb i i refl, eq-eqb t t refl) (p .one ∙ is-a))
+        (rw (eq-eqb i i refl, eq-eqb u u refl, ne-eqb u t (λ e. apart (sym e))) (p .two ∙ is-b))
+        (λ j x n o.
+        let not-at : (v : ℕ) → Off i v j x → (eqb j i && eqb x v) ≡ false = λ v h. grind (arith, tells) in
+        rw (not-at t n, not-at u o) (off-both j x n o));
+  }
 
 pub tie-same : {m m′ : Map} {i t u : ℕ} → (t ≡ u → ⊥) → Paired m i t u u t m′ → Same m′ (tied m i t u)
-tie-same {m} {m′} {i} {t} {u} apart p = record {
-  size = p .frame .size;
-  top = p .frame .top;
-  live = p .frame .live;
-  partner = pair-partner p apart (λ _. u) (λ _. t) refl refl;
-}
+tie-same {t = t} {u = u} apart p = pair-same p apart (λ _. u) (λ _. t) refl refl
 
 pub untie-same : {m m′ : Map} {i t u : ℕ} → (t ≡ u → ⊥) → m .partner i t ≡ u → Paired m i t u t u m′ → Same m′ (untied m i t)
-untie-same {m} {i = i} {t = t} apart e p = record {
-  size = p .frame .size;
-  top = p .frame .top;
-  live = p .frame .live;
-  partner = λ j x. rw e (pair-partner p apart (λ y. y) (λ y. y) refl refl j x);
-}
+untie-same apart e p = rw e (pair-same p apart (λ y. y) (λ y. y) refl refl)

@@ -10,7 +10,7 @@ use Rattle.std.proofs.shelf.Tests.{cases-eq, cases-lt, lt-ltb, lt-leb, eq-eqb, 
 use Rattle.gmap.specs.Map.{Same, Free}
 use Rattle.rows.specs.Changes.{marked}
 use Rattle.rows.specs.Numbers.{numberAt, holds, rowsMap, Sound, Filled}
-use Rattle.rows.proofs.Keeps.{holds-same, partner-same, keeps}
+use Rattle.rows.proofs.Keeps.{not-vacant, holds-same, partner-same, keeps}
 
 -- v is the number of a free tuple t, or of a vacant slot
 abbrev pub Marks : ℕ → Bool → ℕ → Type 0
@@ -27,7 +27,7 @@ module _ {top size : ℕ} {xs ys : List ℕ} {t : ℕ} {live : Bool} {v : ℕ} (
   new-holds j x h =
       elim (cases-eq x t) [
         | inl e ↦ rw (e, eq-eqb t t refl, lt-ltb t size below, here j h) (elim marks [
-          | inl p ↦ rw (p .0, p .1, ne-eqb t 65535 (λ q. omega (arith, sound .few, below, q))) refl
+          | inl p ↦ rw (p .0, p .1, not-vacant (sound .few) below) refl
           | inr p ↦ rw (p .0, p .1) refl
         ])
         | inr n ↦ rw (ne-eqb x t n) (holds-same size xs ys j x (others j x n) ∙ sound .alike j x h)

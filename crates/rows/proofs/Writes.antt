@@ -7,10 +7,10 @@ use Prim.Native.Nat.{ℕ, _+_, _*_, _<_}
 use native.Mathlib.Omega.{arith}
 use lib.ListN.{length, set}
 use Rattle.std.proofs.shelf.Lists.{getD-set-same, length-set}
-use Rattle.std.proofs.shelf.Tests.{le-leb, lt-ltb, ne-eqb}
+use Rattle.std.proofs.shelf.Tests.{le-leb, lt-ltb}
 use Rattle.rows.specs.Changes.{Couple}
 use Rattle.rows.specs.Numbers.{numberAt, holds, rowsMap, Sound}
-use Rattle.rows.proofs.Keeps.{holds-same, partner-same, keeps}
+use Rattle.rows.proofs.Keeps.{not-vacant, holds-same, partner-same, keeps}
 use Rattle.rows.proofs.Law.{rows-partners}
 use Rattle.rows.proofs.Pairs.{Pairing, Paired, by-place, pair-back}
 use Rattle.rows.proofs.Places.{Off, in-room, number-other}
@@ -39,7 +39,7 @@ module _ {top size : ℕ} {xs ys : List ℕ} {i t u a b : ℕ} (sound : Sound to
 
   -- a number that leads to a tuple makes its slot live
   leads : (x v : ℕ) → x < size → v < size → numberAt ys size i x ≡ v → holds ys size i x ≡ true
-  leads x v l k e = rw (lt-ltb x size l, e, ne-eqb v 65535 (λ q. omega (arith, sound .few, k, q))) refl
+  leads x v l k e = rw (lt-ltb x size l, e, not-vacant (sound .few) k) refl
 
   same-holds : (j x : ℕ) → holds ys size j x ≡ holds xs size j x
   same-holds =

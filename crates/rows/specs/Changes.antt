@@ -1,5 +1,5 @@
--- The changes that the four acts come down to.
---   Couple  two different tuples, and a switch
+-- What the writers below the acts are given, and what they leave.
+--   Couple  a switch, and two different tuples
 --   marked  the map with a slot made live or vacant
 use mathlib.Core.Path.{_≡_}
 use mathlib.Core.Bool.{Bool, true, cond}

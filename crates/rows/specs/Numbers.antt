@@ -18,9 +18,11 @@ use Rattle.gmap.specs.Laying.{rowsNeed}
 abbrev pub numberAt : List ℕ → ℕ → ℕ → ℕ → ℕ
 numberAt xs size i t = getD xs (i * size + t) 0
 
+-- 65535 is the number of a vacant slot
 abbrev pub holds : List ℕ → ℕ → ℕ → ℕ → Bool
 holds xs size i t = ltb t size && not (eqb (numberAt xs size i t) 65535)
 
+-- row 0 says which slots are live
 abbrev pub rowsMap : ℕ → ℕ → List ℕ → Map
 rowsMap top size xs =
     record {

@@ -17,75 +17,6 @@ use gmap::map::GMapMut;
 use gmap::map::Reads;
 use gmap::refusal::Refusal;
 
-impl Numbers<'_> {
-    // Writes a at place p and b at place q.
-    fn put_two(&mut self, p: usize, a: u16, q: usize, b: u16)
-        requires { ⌜ p < length (now (now self .list)) ⌝ ∗ ⌜ q < length (now (now self .list)) ⌝ }
-        ensures { λ _. ⌜ now (now (self .exit) .list) ≡ set (set (now (now (self .entry) .list)) p a) q b ⌝ }
-    {
-        self.list[p] = a;
-        self.list[q] = b;
-    }
-
-    // Writes v for slot t in each of the first rows.
-    fn fill(&mut self, rows: u16, size: u16, t: u16, v: u16)
-        requires { ⌜ rows * size ≤ length (now (now self .list)) ⌝ ∗ ⌜ t < size ⌝ }
-        ensures { λ _. ⌜ Filled rows size t v (now (now (self .entry) .list)) (now (now (self .exit) .list)) ⌝ }
-    {
-        for i in 0..rows {
-            self.list[i as usize * size as usize + t as usize] = v;
-        }
-    }
-}
-
-impl Rows<'_> {
-    // Makes t and u, which are free in switch i, partners in it.
-    fn link(&mut self, i: u16, t: u16, u: u16)
-        requires two { ⌜ Couple (mapOf (now self)) i t u ⌝ }
-        requires free { ⌜ Free (mapOf (now self)) i t ⌝ ∗ ⌜ Free (mapOf (now self)) i u ⌝ }
-        ensures { λ _. ⌜ Same (mapOf (now (self .exit))) (tied (mapOf (now (self .entry))) i t u) ⌝ }
-    {
-        let row = i as usize * self.size as usize;
-        self.numbers
-            .put_two(row + t as usize, u, row + u as usize, t);
-    }
-
-    // Makes t and u, which are partners in switch i, free in it.
-    fn unlink(&mut self, i: u16, t: u16, u: u16)
-        requires two { ⌜ Couple (mapOf (now self)) i t u ⌝ }
-        requires linked { ⌜ mapOf (now self) .partner i t ≡ u ⌝ }
-        ensures { λ _. ⌜ Same (mapOf (now (self .exit))) (untied (mapOf (now (self .entry))) i t) ⌝ }
-    {
-        let row = i as usize * self.size as usize;
-        self.numbers
-            .put_two(row + t as usize, t, row + u as usize, u);
-    }
-
-    // Whether t is linked in some switch.
-    fn is_linked(&self, t: u16) -> bool
-        ensures { λ r. ⌜ When r ((i : ℕ) × (Free (mapOf (now (self .entry))) i t → ⊥)) ((i : ℕ) → Free (mapOf (now (self .entry))) i t) ⌝ }
-    {
-        for i in 0..self.top + 1 {
-            if let Ok(u) = self.partner(i, t)
-                && u != t
-            {
-                return true;
-            }
-        }
-        false
-    }
-
-    // Makes slot t, which is linked in no switch, a tuple or vacant.
-    fn set_live(&mut self, t: u16, live: bool)
-        requires slot { ⌜ t < now self .size ⌝ }
-        requires free { ⌜ ((i : ℕ) → Free (mapOf (now self)) i t) ⌝ }
-        ensures { λ _. ⌜ Same (mapOf (now (self .exit))) (marked (mapOf (now (self .entry))) t live) ⌝ }
-    {
-        let number = if live { t } else { VACANT };
-        self.numbers.fill(self.top + 1, self.size, t, number);
-    }
-}
-
 pub impl<'a> GMapMut for Rows<'a> as RowsGMapMut {
     fn open_slot(&mut self, t: u16) -> Result<(), Refusal> {
         if t >= self.size {
@@ -139,5 +70,74 @@ pub impl<'a> GMapMut for Rows<'a> as RowsGMapMut {
         }
         self.unlink(i, t, u);
         Ok(())
+    }
+}
+
+impl Rows<'_> {
+    // Makes t and u, which are free in switch i, partners in it.
+    fn link(&mut self, i: u16, t: u16, u: u16)
+        requires two { ⌜ Couple (mapOf (now self)) i t u ⌝ }
+        requires free { ⌜ Free (mapOf (now self)) i t ⌝ ∗ ⌜ Free (mapOf (now self)) i u ⌝ }
+        ensures { λ _. ⌜ Same (mapOf (now (self .exit))) (tied (mapOf (now (self .entry))) i t u) ⌝ }
+    {
+        let row = i as usize * self.size as usize;
+        self.numbers
+            .put_two(row + t as usize, u, row + u as usize, t);
+    }
+
+    // Makes t and u, which are partners in switch i, free in it.
+    fn unlink(&mut self, i: u16, t: u16, u: u16)
+        requires two { ⌜ Couple (mapOf (now self)) i t u ⌝ }
+        requires linked { ⌜ mapOf (now self) .partner i t ≡ u ⌝ }
+        ensures { λ _. ⌜ Same (mapOf (now (self .exit))) (untied (mapOf (now (self .entry))) i t) ⌝ }
+    {
+        let row = i as usize * self.size as usize;
+        self.numbers
+            .put_two(row + t as usize, t, row + u as usize, u);
+    }
+
+    // Whether t is linked in some switch.
+    fn is_linked(&self, t: u16) -> bool
+        ensures { λ r. ⌜ When r ((i : ℕ) × (Free (mapOf (now (self .entry))) i t → ⊥)) ((i : ℕ) → Free (mapOf (now (self .entry))) i t) ⌝ }
+    {
+        for i in 0..self.top + 1 {
+            if let Ok(u) = self.partner(i, t)
+                && u != t
+            {
+                return true;
+            }
+        }
+        false
+    }
+
+    // Makes slot t, which is linked in no switch, a tuple or vacant.
+    fn set_live(&mut self, t: u16, live: bool)
+        requires slot { ⌜ t < now self .size ⌝ }
+        requires free { ⌜ ((i : ℕ) → Free (mapOf (now self)) i t) ⌝ }
+        ensures { λ _. ⌜ Same (mapOf (now (self .exit))) (marked (mapOf (now (self .entry))) t live) ⌝ }
+    {
+        let number = if live { t } else { VACANT };
+        self.numbers.fill(self.top + 1, self.size, t, number);
+    }
+}
+
+impl Numbers<'_> {
+    // Writes a at place p and b at place q.
+    fn put_two(&mut self, p: usize, a: u16, q: usize, b: u16)
+        requires { ⌜ p < length (now (now self .list)) ⌝ ∗ ⌜ q < length (now (now self .list)) ⌝ }
+        ensures { λ _. ⌜ now (now (self .exit) .list) ≡ set (set (now (now (self .entry) .list)) p a) q b ⌝ }
+    {
+        self.list[p] = a;
+        self.list[q] = b;
+    }
+
+    // Writes v for slot t in each of the first rows.
+    fn fill(&mut self, rows: u16, size: u16, t: u16, v: u16)
+        requires { ⌜ rows * size ≤ length (now (now self .list)) ⌝ ∗ ⌜ t < size ⌝ }
+        ensures { λ _. ⌜ Filled rows size t v (now (now (self .entry) .list)) (now (now (self .exit) .list)) ⌝ }
+    {
+        for i in 0..rows {
+            self.list[i as usize * size as usize + t as usize] = v;
+        }
     }
 }

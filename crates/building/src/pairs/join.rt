@@ -98,17 +98,18 @@ fn pair_sides<C: GMap>(
     Ok(count)
 }
 
-// Ties every tuple of a side to its mate, and answers how many links that makes.
+// Ties the first tuples of a list, which are a side, to their mates; answers how many links that makes.
 // Where both sides are one orbit, a pair is met from both its ends, and is tied and counted at the first.
-fn tie_pairs<B: GMapMut>(board: &mut B, i: u16, side: &[u16], mates: &[u16]) -> Result<u16, Refusal>
-    requires { ⌜ Tieable (B·Reads .meaning (now board)) i (now side) (now mates) ⌝ }
-    ensures { λ r. ⌜ Cases r (λ n. AllTied (B·Reads .meaning (now (board .entry))) i (PairsOf (now (side .entry)) (length (now (side .entry))) (now (mates .entry))) n (B·Reads .meaning (now (board .exit)))) (λ _. ⊥) ⌝ }
+fn tie_pairs<B: GMapMut>(board: &mut B, i: u16, list: &[u16], count: u16, mates: &[u16]) -> Result<u16, Refusal>
+    requires { ⌜ Tieable (B·Reads .meaning (now board)) i (now list) count (now mates) ⌝ }
+    ensures { λ r. ⌜ Cases r (λ n. AllTied (B·Reads .meaning (now (board .entry))) i (PairsOf (now (list .entry)) count (now (mates .entry))) n (B·Reads .meaning (now (board .exit)))) (λ _. ⊥) ⌝ }
 {
     let mut links = 0;
-    for x in side {
-        let partner = board.partner(i, *x)?;
-        if partner == *x {
-            board.tie(i, *x, mates[*x as usize])?;
+    for k in 0..count {
+        let x = list[k as usize];
+        let partner = board.partner(i, x)?;
+        if partner == x {
+            board.tie(i, x, mates[x as usize])?;
             links += 1;
         }
     }
@@ -137,5 +138,5 @@ pub fn join<B: GMapMut>(
     let (right, rest) = rest.split_at_mut(size);
     let (mates, places) = rest.split_at_mut(size);
     let count = pair_sides(board, seam, left, right, mates, places)?;
-    tie_pairs(board, i, &left[0..count as usize], mates)
+    tie_pairs(board, i, left, count, mates)
 }

@@ -5,7 +5,7 @@ ghost use Prim.Native.Nat.{_≤_};
 ghost use lib.ListN.{length};
 ghost use Rattle.gmap.specs.Map.{Far};
 ghost use Rattle.questions.specs.Search.{Collected};
-use super::Found;
+use super::collect;
 use crate::switches::Switches;
 use gmap::map::GMap;
 
@@ -18,11 +18,5 @@ pub fn far_orbit<C: GMap>(map: &C, i: u16, t: u16, list: &mut [u16], places: &mu
     requires places { ⌜ length (now list) ≤ length (now places) ⌝ }
     ensures { λ r. ⌜ Collected (C·Reads .meaning (now (map .entry))) (Far i) t r (now (list .exit)) ⌝ }
 {
-    let mut found = Found {
-        list,
-        places,
-        count: 0,
-    };
-    found.gather(map, Switches::FarFrom(i), t);
-    found.count
+    collect(map, Switches::FarFrom(i), t, list, places)
 }

@@ -1,6 +1,5 @@
 -- The loop passes bytes that are no separator, and stops at the first that is one, or at the end.
 use borrow.Author.Needs.{needs}
-use Rattle.reading.specs.Pieces.{before, behind, Parted}
 use Rattle.reading.proofs.Cuts.{cutting-more, cutting-here, cutting-end, parted-is}
 use Rattle.reading.proofs.cut.split_first.Needs as need
 

@@ -1,3 +1,4 @@
+-- The bytes that were passed hold no separator; those that are left become fewer.
 use lib.ListN.{length}
 use Rattle.reading.proofs.Cuts.{Cutting}
 use Rattle.reading.proofs.cut.split_first.Given as given

@@ -1,3 +1,4 @@
+-- The leading digits are fewer than all.
 use lib.ListN.{length}
 use Rattle.reading.proofs.number.+number.Given as given
 

@@ -1,4 +1,4 @@
-use borrow.Author.Needs.{needs}
+-- Slices are equal if their bytes are.
 use Rattle.std.proofs.shelf.Equals.{matches-decides, sameBytes-decides}
 use Rattle.std.proofs.shelf.Ways.{same-from-decides}
 use Rattle.reading.proofs.word.same.Needs as need

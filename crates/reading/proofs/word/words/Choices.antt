@@ -1,3 +1,4 @@
+-- The words of the front were read; the bytes that are left become fewer.
 use lib.ListN.{length}
 use Rattle.std.specs.Of.Vec.{vec-items}
 use Rattle.reading.proofs.Lines.{Reading}
