@@ -39,9 +39,8 @@ module _ (s front : List ℕ) (some : 0 < length s) (few : length s ≤ 65536) (
   script-refused e old new refused is = (printed 1 (Err e), is, opened-transcript (Err e) _ refused refl)
 
   pub script-played : (o : Opening) (back old opened new : List ℕ) → Ok o ≡ openingOf (map senseOf (wordsOf front)) → back ≡ behind 10 s → opened ≡ old ++ printed 1 (Ok []) → Appended (Told (empty (o .top) (o .size)) 2 (linesOf back)) opened new → Appended (Transcript s) old new
-  script-played o back old opened new accepted is-back is h =
-      (
-        printed 1 (Ok []) ++ h .0,
-        h .1 ∙ ap (λ x. x ++ h .0) is ∙ append-assoc old (printed 1 (Ok [])) (h .0),
-        opened-transcript (Ok o) _ accepted (h .0, rw is-back at (h .2), refl),
-      )
+  script-played o back old opened new accepted is-back is h = (
+    printed 1 (Ok []) ++ h .0,
+    h .1 ∙ ap (λ x. x ++ h .0) is ∙ append-assoc old (printed 1 (Ok [])) (h .0),
+    opened-transcript (Ok o) _ accepted (h .0, rw is-back at (h .2), refl),
+  )

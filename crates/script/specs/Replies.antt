@@ -1,6 +1,6 @@
--- The answers of the program, as the numbers that they stand for.
---   valuesOf  the numbers of a reply, of which the last may stand in a list
---   answerOf  the same of a reply that may be a refusal
+-- The numbers that a reply of the program stands for.
+--   valuesOf  those of an accepted request, with what it wrote to the list
+--   answerOf  the same, or the refusal
 use mathlib.Core.Bool.{cond}
 use mathlib.Core.List.{List, [], _∷_}
 use Prim.Native.Nat.{ℕ}

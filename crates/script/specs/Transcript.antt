@@ -3,9 +3,10 @@
 --   Asked       what a line comes to, by the request that it asks for
 --   Says        the same, by the bytes of the line
 --   Told        what the lines from some line on print, on the map that they find
---   Begun       what all the lines print, of which the first says what map to begin with
+--   Opened      what all the lines print, by the opening that the first of them is
+--   Begun       the same, by the bytes of the lines
 --   Transcript  what a script prints, by its bytes
---   Appended    bytes that are so are appended
+--   Appended    a list grew by bytes of which something holds
 use mathlib.Core.Path.{_≡_}
 use mathlib.Core.Bool.{false}
 use mathlib.Core.List.{List, [], _∷_, _++_, map}
@@ -50,7 +51,7 @@ abbrev pub Begun : List (List ℕ) → List ℕ → Type 0
 Begun [] out = out ≡ []
 Begun (l ∷ ls) out = Opened (openingOf (map senseOf (wordsOf l))) ls out
 
--- Of a script that is too long no line is read, so its refusal stands for line 0.
+-- Of a script that is too long no line is read: its refusal is numbered 0.
 pub record Transcript (script out : List ℕ) : Type 0 where
   pub long : 65536 < length script → out ≡ printed 0 (Err Oversize)
   pub lines : length script ≤ 65536 → Begun (linesOf script) out

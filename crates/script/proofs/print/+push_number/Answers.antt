@@ -2,7 +2,7 @@
 use borrow.Author.Needs.{needs}
 use mathlib.Core.List.{append-assoc}
 use Rattle.std.proofs.shelf.Decimals.{decimal-digit, decimal-step}
-use Rattle.script.proofs.show.+push_number.Needs as need
+use Rattle.script.proofs.print.+push_number.Needs as need
 
 pub returns : need.returns
 returns t c = search (needs, decimal-digit, decimal-step, append-assoc)

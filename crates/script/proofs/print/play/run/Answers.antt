@@ -10,7 +10,7 @@ use Rattle.reading.specs.Words.{sense}
 use Rattle.reading.proofs.Cuts.{length-behind}
 use Rattle.script.proofs.Readings.{some-bytes, read-from}
 use Rattle.script.proofs.Scripts.{opening-small, script-none, script-refused, script-played}
-use Rattle.script.proofs.play.run.Needs as need
+use Rattle.script.proofs.print.play.run.Needs as need
 
 pub returns-then-is-empty : need.returns-then-is-empty
 returns-then-is-empty c = script-none (c .args .script .now) _ (eqb-true _ _ (sym (c .if-is-empty .ensures tt)))

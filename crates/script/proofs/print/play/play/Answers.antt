@@ -10,7 +10,7 @@ use Rattle.script.specs.Printing.{printed}
 use Rattle.script.specs.Replies.{answerOf}
 use Rattle.script.proofs.Plays.{playing-none, playing-more, playing-done}
 use Rattle.script.proofs.Readings.{some-bytes, read-from}
-use Rattle.script.proofs.play.play.Needs as need
+use Rattle.script.proofs.print.play.play.Needs as need
 
 pub loop-rest-holds : need.loop-rest-holds
 loop-rest-holds g c = playing-none _ _ _ _ _ _ (c .in-Continue-scratch .ensures tt .made .1) (c .in-Continue-list .ensures tt .made .1) (c .size-size .ensures)

@@ -2,7 +2,7 @@
 use lib.ListN.{length}
 use Rattle.std.specs.Of.Vec.{vec-items, vec-len}
 use Rattle.script.proofs.Plays.{Playing}
-use Rattle.script.proofs.play.play.Given as given
+use Rattle.script.proofs.print.play.play.Given as given
 
 abbrev pub Inv-loop-rest : given.InvT-loop-rest
 Inv-loop-rest g l = Playing (g .B·Reads .meaning (l .entry .board)) (g .B·Reads .meaning (l .board)) (l .lines) (l .rest) (l .line) (vec-items (l .entry .out)) (vec-items (l .out)) (vec-len (l .scratch)) (vec-len (l .list))
