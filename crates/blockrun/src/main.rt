@@ -1,4 +1,6 @@
 // Carries out the script on the standard input, and writes what it prints to the standard output.
+#![tactic(auto)]
+
 use std::io;
 use std::io::{Read, Write};
 

@@ -1,4 +1,6 @@
 // The calls that build a map: make and unmake, join and part.
+#![tactic(auto)]
+
 mod cut;
 mod pairs;
 mod slots;

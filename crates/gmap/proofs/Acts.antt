@@ -1,7 +1,7 @@
 -- When a tie and an untie are not refused, and what they leave.
-use Rattle.std.proofs.Common.{◌≡◌, ℕ, ◌≤◌, Bool, true, false, cond, ◌&&◌, eqb, ◌⊎◌, sym, refl, ap, ◌∙◌, inl, inr, ⊎_elim, arith}
+use Rattle.std.proofs.Common.{◌≡◌, ℕ, ◌≤◌, true, false, ◌&&◌, eqb, sym, refl, inl, inr, ⊎_elim, arith}
 use Rattle.std.proofs.lemmas.Bool.{both_ways, cases_eq, eq-eqb, ne_eqb, and_left, and_right}
-use Rattle.gmap.specs.Map.{Map, Partners, Free, Same, DiffersIn}
+use Rattle.gmap.specs.Map.{Map, Partners, Free, DiffersIn}
 use Rattle.gmap.specs.Acts.{tie_checks, tied, untie_checks, untied}
 use Rattle.gmap.specs.Outcome.{First}
 use Rattle.gmap.specs.declared.refusal.Refusal.{Refusal}

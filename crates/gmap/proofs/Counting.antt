@@ -1,6 +1,6 @@
 -- How many numbers a set has.
-use Rattle.std.proofs.Common.{◌≡◌, ℕ, zero, suc, ◌+◌, ◌<◌, ◌≤◌, ◌⊎◌, List, [], ◌∷◌, length, get_or, sym, refl, ap, subst, inl, inr, ⊎_elim, arith}
-use Rattle.gmap.specs.Listing.{Among, Members, Counts}
+use Rattle.std.proofs.Common.{◌≡◌, ℕ, zero, suc, ◌+◌, ◌<◌, ◌⊎◌, [], ◌∷◌, length, get_or, sym, refl, subst, ⊎_elim, arith}
+use Rattle.gmap.specs.Listing.{Among, Counts}
 
 pub counts_none : (P : ℕ → Type 0) → ((x : ℕ) → P x → ⊥) → Counts P 0
 counts_none P none = ([], record { apart = λ k l h b. absurd (omega arith); sound = λ k h. absurd (omega arith); whole = λ x p. absurd (none x p) }, refl)

@@ -1,5 +1,5 @@
 -- Orbits: all their members are live, and two that meet are one.
-use Rattle.std.proofs.Common.{◌≡◌, ℕ, Bool, sym, ◌∙◌, subst}
+use Rattle.std.proofs.Common.{◌≡◌, ℕ, Bool, ◌∙◌, subst}
 use Rattle.gmap.specs.Map.{Map, Partners}
 use Rattle.gmap.specs.Orbits.{Orbit, here, step}
 

@@ -1,5 +1,5 @@
 -- Tables of refusals: one behind another, and a step that is never refused.
-use Rattle.std.proofs.Common.{ℕ, ◌⊎◌, List, [], ◌∷◌, ◌++◌, Ok, Err, Result, inl, inr, ⊎_elim, MatchResult}
+use Rattle.std.proofs.Common.{ℕ, List, [], ◌∷◌, ◌++◌, Ok, Err, Result, inl, inr, ⊎_elim, MatchResult}
 use Rattle.gmap.specs.Outcome.{First, Passes, Outcome}
 use Rattle.gmap.specs.declared.refusal.Refusal.{Refusal}
 

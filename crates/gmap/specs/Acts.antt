@@ -1,5 +1,5 @@
 -- The four acts, each by its table of refusals and the map that it leaves; and the table of a look at a partner.
-use Rattle.std.specs.Prelude.{◌≡◌, ℕ, ◌<◌, ◌≤◌, Bool, true, false, cond, ◌&&◌, ◌⊎◌, List, [], ◌∷◌, ◌==◌}
+use Rattle.std.specs.Prelude.{◌≡◌, ℕ, ◌<◌, ◌≤◌, true, false, cond, ◌&&◌, ◌⊎◌, List, [], ◌∷◌, ◌==◌}
 use Rattle.gmap.specs.Map.{Map, Free}
 
 abbrev pub partner_checks : Map → ℕ → ℕ → List (Type 0 × ℕ)

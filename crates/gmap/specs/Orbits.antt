@@ -2,7 +2,7 @@
 --   Orbit     under the switches of a set
 --   FarOrbit  under the switches far from i
 --   Cell      under all switches but i: the i-cell
-use Rattle.std.specs.Prelude.{◌≡◌, ℕ, ◌≢◌}
+use Rattle.std.specs.Prelude.{ℕ, ◌≢◌}
 use Rattle.gmap.specs.Map.{Map, Far}
 
 pub data Orbit (m : Map) (via : ℕ → Type 0) (t : ℕ) : ℕ → Type 0 where

@@ -1,5 +1,7 @@
 // Two coins as one roll, built through piles of layers, and the answers of Lower over each pile;
 // a board of slips filled to its last record; and removals on boards that no script can make.
+#![tactic(auto)]
+
 mod boards;
 mod roll;
 

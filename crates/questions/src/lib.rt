@@ -1,4 +1,6 @@
 // The questions that every map answers: orbits and cells, on one search; lawful and whole.
+#![tactic(auto)]
+
 mod laws;
 mod search;
 mod switches;

@@ -1,4 +1,6 @@
 // From the bytes of a script to its requests: lines, words, numbers, the opening, and what a line asks for.
+#![tactic(auto)]
+
 pub mod cut;
 pub mod number;
 pub mod opening;

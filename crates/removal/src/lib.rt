@@ -1,4 +1,6 @@
 // Taking a cell out of a map, so that the tuples around it become partners across it.
+#![tactic(auto)]
+
 mod border;
 mod clear;
 mod take;

@@ -1,4 +1,6 @@
 // A generalized map in rows of numbers, in memory that the caller lends.
+#![tactic(auto)]
+
 pub mod acts;
 pub mod lay;
 pub mod reads;

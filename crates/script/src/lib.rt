@@ -6,6 +6,8 @@
 //     join 0 0 1     4 OK 1
 //     orbit 1 0      5 OK 2 0 1
 //     make 2         6 NO 2
+#![tactic(auto)]
+
 mod print;
 mod reply;
 mod serve;

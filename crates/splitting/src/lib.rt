@@ -1,4 +1,6 @@
 // The call that splits an edge: a new vertex on it.
+#![tactic(auto)]
+
 mod ends;
 mod links;
 mod slots;

@@ -1,4 +1,6 @@
 // Carries out the scripts that the arguments name, and writes what each prints behind a line with its name.
+#![tactic(auto)]
+
 use std::io::Write;
 use std::{env, fs};
 
