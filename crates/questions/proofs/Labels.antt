@@ -1,8 +1,8 @@
 -- Labelling the cells of a map, slot by slot upwards.
-use Rattle.std.proofs.Common.{◌≡◌, ℕ, zero, suc, ◌+◌, ◌<◌, ◌≤◌, true, false, ◌⊎◌, List, length, get_or, sym, refl, ap, ◌∙◌, subst, inl, inr, ⊎_elim, arith, below_more}
-use Rattle.std.proofs.lemmas.Bool.{cases_eq, cases_lt, cases_Bool, both_ways}
+use Rattle.std.proofs.Common.{◌≡◌, ℕ, ◌+◌, ◌<◌, ◌≤◌, true, List, length, get_or, sym, refl, ◌∙◌, subst, inl, inr, ⊎_elim, arith}
+use Rattle.std.proofs.lemmas.Bool.{cases_eq, cases_lt, both_ways}
 use Rattle.gmap.specs.Map.{Map, Partners}
-use Rattle.gmap.specs.Orbits.{Orbit, here, Cell}
+use Rattle.gmap.specs.Orbits.{here, Cell}
 use Rattle.gmap.specs.Listing.{Among, Counts}
 use Rattle.gmap.specs.Asking.{Lowest, Labelled}
 use Rattle.gmap.proofs.Orbits.{orbit_live, orbit_trans, orbit_back}

@@ -1,5 +1,5 @@
 -- The bits of a mask.
-use Rattle.std.proofs.Common.{◌≡◌, ℕ, ◌+◌, ◌-◌, ◌/◌, ◌%◌, ◌^◌, ◌<◌, ◌≤◌, ap, arith, pow_mono}
+use Rattle.std.proofs.Common.{◌≡◌, ℕ, ◌/◌, ◌%◌, ◌^◌, ◌<◌, ◌≤◌, ap, arith, pow_mono}
 use native.Mathlib.Nat.{div-eq_of_lt}
 use Rattle.gmap.specs.Asking.{Bit}
 

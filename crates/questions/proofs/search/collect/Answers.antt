@@ -7,4 +7,4 @@ use Rattle.questions.proofs.search.collect.Goals as goal
 pub returns : goal.returns
 returns g c =
     let F : List ℕ → Type 0 = λ xs. Collected (g.C.Reads.meaning c.args.map.now) (via c.args.switches) c.args.t c.gather.new.self.count xs in
-    subst F (sym (c.list·1.given.1.1 (sym c.gather.ensures.same-list))) c.gather.ensures.set.orbit
+    subst F (sym (c.list-1.given.1.1 (sym c.gather.ensures.same_list))) c.gather.ensures.set.orbit

@@ -1,4 +1,4 @@
-use Rattle.std.proofs.Common.{arith, rules}
+use Rattle.std.proofs.Common.{arith}
 use Rattle.questions.proofs.Rising.{listed_like, listed_skip, listed_more}
 use Rattle.questions.proofs.search.rise.Goals as goal
 use Rattle.questions.proofs.search.rise.Goals.{then-has, else-has}

@@ -1,4 +1,4 @@
-use Rattle.std.proofs.Common.{◌≡◌, ◌+◌, sym, ◌∙◌, subst, arith, rules}
+use Rattle.std.proofs.Common.{◌≡◌, ◌+◌, sym, ◌∙◌, subst, arith}
 use Rattle.gmap.proofs.Looks.{look_there, look_is, partner_inside}
 use Rattle.questions.specs.declared.search.Found.{Found}
 use Rattle.questions.specs.Search.{Spread}
@@ -26,6 +26,6 @@ loop-j-preserved g c =
     elim c.if-has.branch [
       | then-has w ↦
           let is = look_is m c.loop-j.j c.args.u _ _ w.unwrap.ensures w.partner.ensures in
-          subst F (sym w.self-is) (spread_more _ _ _ _ _ _ _ c.loop-j.self.places.now _ c.loop-j.invariant.0 w.if-has.ensures _ _ _ (rw is at w.add.ensures.set), w.add.ensures.same-list ∙ c.loop-j.invariant.1)
+          subst F (sym w.self-is) (spread_more _ _ _ _ _ _ _ c.loop-j.self.places.now _ c.loop-j.invariant.0 w.if-has.ensures _ _ _ (rw is at w.add.ensures.set), w.add.ensures.same_list ∙ c.loop-j.invariant.1)
       | else-has w ↦ subst F (sym w.self-is) (spread_skip _ _ _ _ _ _ _ _ _ c.loop-j.invariant.0 w.if-has.ensures, c.loop-j.invariant.1)
     ]

@@ -23,12 +23,12 @@ expand-requires g c =
     record { kept = p.kept; size = search rules; live = orbit_live _ law _ true c.requires.live (p.only c.loop-done.done c.loop-done-test.true) }
 
 pub loop-done-preserved : goal.loop-done-preserved
-loop-done-preserved g c = (progress_more _ _ _ _ _ _ _ _ _ _ _ c.loop-done.invariant.0 c.loop-done-test.true c.expand.ensures.set, c.expand.ensures.same-list ∙ c.loop-done.invariant.1)
+loop-done-preserved g c = (progress_more _ _ _ _ _ _ _ _ _ _ _ c.loop-done.invariant.0 c.loop-done-test.true c.expand.ensures.set, c.expand.ensures.same_list ∙ c.loop-done.invariant.1)
 
 pub returns : goal.returns
 returns g c =
     let law = g.met.C.GMap.partners c.args.map.now in
     record {
       set = gathered _ law _ _ _ _ _ _ c.loop-done.done c.loop-done.invariant.0 c.loop-done-test.false c.args.self.now.list.now c.add.ensures.set.long;
-      same-list = c.loop-done.invariant.1 ∙ c.add.ensures.same-list;
+      same_list = c.loop-done.invariant.1 ∙ c.add.ensures.same_list;
     }

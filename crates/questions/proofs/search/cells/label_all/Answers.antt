@@ -2,7 +2,7 @@ use Rattle.std.proofs.Common.{◌≡◌, ◌≤◌, length, sym, ◌∙◌, subs
 use Rattle.questions.specs.declared.search.Found.{Found}
 use Rattle.questions.proofs.Labels.{Labelling, labelling_skip, labelling_more, labelling_done}
 use Rattle.questions.proofs.search.cells.label_all.Goals as goal
-use Rattle.questions.proofs.search.cells.label_all.Goals.{then-is-unlabelled, else-is-unlabelled}
+use Rattle.questions.proofs.search.cells.label_all.Goals.{then-is_unlabelled, else-is_unlabelled}
 
 pub loop-t-preserved : goal.loop-t-preserved
 loop-t-preserved g c =
@@ -10,14 +10,14 @@ loop-t-preserved g c =
     let law = g.met.C.GMap.partners c.args.map.now in
     let F : Found → Type 0 = λ f. (length f.list.now ≡ m.size) × (length f.list.now ≤ length f.places.now) in
     let (s, room, deep) = c.loop-t.invariant in
-    elim c.if-is-unlabelled.branch [
-      | then-is-unlabelled w ↦
+    elim c.if-is_unlabelled.branch [
+      | then-is_unlabelled w ↦
           let found = w.gather.ensures.set in
-          let kept : F c.if-is-unlabelled.found = subst F (sym w.found-is) (found.long ∙ room, found.kept.deep) in
-          (rw (w.out-is, w.cells-is) (labelling_more m law _ _ _ _ _ s w.if-is-unlabelled.ensures _ _ found.orbit _ w.label.ensures), kept.0, kept.1)
-      | else-is-unlabelled w ↦
-          let kept : F c.if-is-unlabelled.found = subst F (sym w.found-is) (room, deep) in
-          (rw (w.out-is, w.cells-is) (labelling_skip m law _ _ _ _ _ s w.if-is-unlabelled.ensures), kept.0, kept.1)
+          let kept : F c.if-is_unlabelled.found = subst F (sym w.found-is) (found.long ∙ room, found.kept.deep) in
+          (rw (w.out-is, w.cells-is) (labelling_more m law _ _ _ _ _ s w.if-is_unlabelled.ensures _ _ found.orbit _ w.label.ensures), kept.0, kept.1)
+      | else-is_unlabelled w ↦
+          let kept : F c.if-is_unlabelled.found = subst F (sym w.found-is) (room, deep) in
+          (rw (w.out-is, w.cells-is) (labelling_skip m law _ _ _ _ _ s w.if-is_unlabelled.ensures), kept.0, kept.1)
     ]
 
 pub returns : goal.returns
