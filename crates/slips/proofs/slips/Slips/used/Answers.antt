@@ -8,14 +8,14 @@ use Rattle.slips.specs.Law.{sound_of}
 use Rattle.slips.proofs.Sums.{count_passed, count_failed}
 use Rattle.slips.proofs.Usage.{slips_use}
 use Rattle.slips.proofs.slips.Slips.used.Goals as goal
-use Rattle.slips.proofs.slips.Slips.used.Goals.{then-is-used, else-is-used}
+use Rattle.slips.proofs.slips.Slips.used.Goals.{then-is_used, else-is_used}
 
 pub loop-p-preserved : goal.loop-p-preserved
 loop-p-preserved c =
     let test : ℕ → Bool = λ p. says_something (get_or c.args.self.now.records.now p Unused) in
-    elim c.if-is-used.branch [
-      | then-is-used w ↦ (omega (arith, w.count-is), count_passed test c.loop-p.p c.loop-p.count _ c.loop-p.invariant.1 (sym w.if-is-used.ensures) w.count-is)
-      | else-is-used w ↦ (omega (arith, w.count-is), count_failed test c.loop-p.p c.loop-p.count _ c.loop-p.invariant.1 (sym w.if-is-used.ensures) w.count-is)
+    elim c.if-is_used.branch [
+      | then-is_used w ↦ (omega (arith, w.count-is), count_passed test c.loop-p.p c.loop-p.count _ c.loop-p.invariant.1 (sym w.if-is_used.ensures) w.count-is)
+      | else-is_used w ↦ (omega (arith, w.count-is), count_failed test c.loop-p.p c.loop-p.count _ c.loop-p.invariant.1 (sym w.if-is_used.ensures) w.count-is)
     ]
 
 pub returns : goal.returns
