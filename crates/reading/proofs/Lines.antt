@@ -5,7 +5,7 @@ use Rattle.std.proofs.ByRecursion.{All-push}
 use Rattle.std.proofs.lemmas.List.{map_push}
 use Rattle.reading.specs.declared.word.Part.{Part}
 use Rattle.reading.specs.declared.word.Word.{Word}
-use Rattle.reading.specs.Pieces.{before, behind, pieces, words_of}
+use Rattle.reading.specs.Pieces.{before, behind, words_of}
 use Rattle.reading.specs.Words.{Sense, names, orders, counts, nothing, sense_of, said_by, word_of, sense, part_of, text_of, line_of, Reads}
 use Rattle.reading.proofs.Cuts.{pieces_step}
 

@@ -18,20 +18,20 @@ three_at (w ∷ v ∷ u ∷ t ∷ ws) d h e = absurd (omega arith)
 three_not : (ws : List Word) → (length ws ≡ 3 → ⊥) → None ≡ opened_of (map sense ws)
 three_not ws h = let long = length-map ws sense in grind arith
 
-pub returns-in-default : goal.returns-in-default
-returns-in-default c = search (rules, three_not)
+pub returns-in_default : goal.returns-in_default
+returns-in_default c = search (rules, three_not)
 
-pub returns-in-default·2 : goal.returns-in-default·2
-returns-in-default·2 c = search (rules, three_not)
+pub returns-in_default-2 : goal.returns-in_default-2
+returns-in_default-2 c = search (rules, three_not)
 
-pub returns-in-err-name : goal.returns-in-err-name
-returns-in-err-name c = c.from-residual.ensures ∙ three_at c.args.words.now _ (search rules) (ap₂ (both _) c.in-err-name.ensures refl)
+pub returns-in_err-name : goal.returns-in_err-name
+returns-in_err-name c = c.from_residual.ensures ∙ three_at c.args.words.now _ (search rules) (ap₂ (both _) c.in_err-name.ensures refl)
 
-pub returns-in-err-count : goal.returns-in-err-count
-returns-in-err-count c = c.from-residual-in-err-count.ensures ∙ three_at c.args.words.now _ (search rules) (ap₂ (both _) c.in-ok-name.ensures (ap₂ (both _) c.in-err-count.ensures refl))
+pub returns-in_err-count : goal.returns-in_err-count
+returns-in_err-count c = c.from_residual-in_err-count.ensures ∙ three_at c.args.words.now _ (search rules) (ap₂ (both _) c.in_ok-name.ensures (ap₂ (both _) c.in_err-count.ensures refl))
 
-pub returns-in-err-count-2 : goal.returns-in-err-count-2
-returns-in-err-count-2 c = c.from-residual-in-err-count-2.ensures ∙ three_at c.args.words.now _ (search rules) (ap₂ (both _) c.in-ok-name.ensures (ap₂ (both _) c.in-ok-count.ensures c.in-err-count-2.ensures))
+pub returns-in_err-count-2 : goal.returns-in_err-count-2
+returns-in_err-count-2 c = c.from_residual-in_err-count-2.ensures ∙ three_at c.args.words.now _ (search rules) (ap₂ (both _) c.in_ok-name.ensures (ap₂ (both _) c.in_ok-count.ensures c.in_err-count-2.ensures))
 
 pub returns : goal.returns
-returns c = three_at c.args.words.now _ (search rules) (ap₂ (both _) c.in-ok-name.ensures (ap₂ (both _) c.in-ok-count.ensures c.in-ok-count-2.ensures))
+returns c = three_at c.args.words.now _ (search rules) (ap₂ (both _) c.in_ok-name.ensures (ap₂ (both _) c.in_ok-count.ensures c.in_ok-count-2.ensures))

@@ -10,10 +10,10 @@ form_is : (ss : List Sense) (o : Option Request) → o ≡ asked_of ss → Match
 form_is ss None e = λ q is. grind arith
 form_is ss (Some q) e = grind arith
 
-pub returns-in-default : goal.returns-in-default
-returns-in-default c = search (rules, no_senses)
+pub returns-in_default : goal.returns-in_default
+returns-in_default c = search (rules, no_senses)
 
 pub returns : goal.returns
 returns c =
-    let value = c.fill.ensures ∙ first_at asked_of c.args.words.now _ (search rules) (ap₂ begun_of c.in-ok-order.ensures refl) in
+    let value = c.fill.ensures ∙ first_at asked_of c.args.words.now _ (search rules) (ap₂ begun_of c.in_ok-order.ensures refl) in
     record { value = value; form = form_is _ _ value }

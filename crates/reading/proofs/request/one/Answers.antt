@@ -17,8 +17,8 @@ one_not ws h = let long = length-map ws sense in grind arith
 pub returns-in-len1 : goal.returns-in-len1
 returns-in-len1 c = one_at c.args.words.now _ (search rules) c.count.ensures
 
-pub returns-in-default : goal.returns-in-default
-returns-in-default c = search (rules, one_not)
+pub returns-in_default : goal.returns-in_default
+returns-in_default c = search (rules, one_not)
 
-pub returns-in-default·2 : goal.returns-in-default·2
-returns-in-default·2 c = search (rules, one_not)
+pub returns-in_default-2 : goal.returns-in_default-2
+returns-in_default-2 c = search (rules, one_not)

@@ -5,12 +5,12 @@ use Rattle.reading.proofs.Cuts.{length_behind}
 use Rattle.reading.proofs.Lines.{reading_skip, reading_more, reading_done}
 use Rattle.reading.proofs.word.words.Goals as goal
 
-pub loop-rest-smaller-then-is-empty : goal.loop-rest-smaller-then-is-empty
-loop-rest-smaller-then-is-empty c = search (rules, length_behind)
+pub loop-rest-smaller-then-is_empty : goal.loop-rest-smaller-then-is_empty
+loop-rest-smaller-then-is_empty c = search (rules, length_behind)
 
-pub loop-rest-preserved-then-is-empty : goal.loop-rest-preserved-then-is-empty
-loop-rest-preserved-then-is-empty c =
-    let cut = c.split-first.ensures in
+pub loop-rest-preserved-then-is_empty : goal.loop-rest-preserved-then-is_empty
+loop-rest-preserved-then-is_empty c =
+    let cut = c.split_first.ensures in
     reading_skip _ _ _ _ _ _ c.loop-rest.invariant (search rules) cut.front cut.back (search rules)
 
 pub loop-rest-smaller : goal.loop-rest-smaller
@@ -18,9 +18,9 @@ loop-rest-smaller c = search (rules, length_behind)
 
 pub loop-rest-preserved : goal.loop-rest-preserved
 loop-rest-preserved c =
-    let cut = c.split-first.ensures in
-    let more = pushed (c.read-word.result ∷ []) refl c.in-ok-push.was c.push.ensures.items in
-    reading_more _ _ _ _ _ _ c.loop-rest.invariant (search rules) cut.front cut.back (search rules) _ refl refl _ (rw c.read-word.ensures at more)
+    let cut = c.split_first.ensures in
+    let more = pushed (c.read_word.result ∷ []) refl c.in_ok-push.was c.push.ensures.items in
+    reading_more _ _ _ _ _ _ c.loop-rest.invariant (search rules) cut.front cut.back (search rules) _ refl refl _ (rw c.read_word.ensures at more)
 
 pub returns : goal.returns
 returns c = search (rules, reading_done)
