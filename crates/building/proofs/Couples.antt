@@ -1,9 +1,9 @@
 -- The pairs of a join.
-use Rattle.std.proofs.Common.{◌≡◌, ℕ, true, ◌⊎◌, sym, ap, ◌∙◌, inl, inr, ⊎_elim}
+use Rattle.std.proofs.Common.{◌≡◌, ℕ, true, sym, ap, ◌∙◌, inl, inr, ⊎_elim}
 use Rattle.gmap.specs.Map.{Map, Partners}
-use Rattle.gmap.specs.Orbits.{FarOrbit, Orbit, here, step}
+use Rattle.gmap.specs.Orbits.{FarOrbit, here, step}
 use Rattle.gmap.specs.Building.{Pair, given, turned, moved}
-use Rattle.building.specs.Mates.{Joinable, OnSides}
+use Rattle.building.specs.Mates.{OnSides}
 
 module _ (m : Map) (i t u : ℕ) where
   pub pair_sym : {x y : ℕ} → Pair m i t u x y → Pair m i t u y x

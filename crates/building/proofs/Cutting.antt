@@ -1,10 +1,10 @@
 -- Cutting the links at a list of tuples, one after the other.
-use Rattle.std.proofs.Common.{◌≡◌, ℕ, ◌+◌, ◌<◌, ◌≤◌, ◌⊎◌, List, length, get_or, sym, refl, ap, ◌∙◌, subst, inl, inr, ⊎_elim, arith}
+use Rattle.std.proofs.Common.{◌≡◌, ℕ, ◌+◌, ◌<◌, ◌⊎◌, List, get_or, sym, refl, ap, ◌∙◌, subst, inl, inr, ⊎_elim, arith}
 use Rattle.std.proofs.lemmas.Bool.{cases_eq, cases_lt}
-use Rattle.gmap.specs.Map.{Map, Partners, Free, Same, DiffersIn}
+use Rattle.gmap.specs.Map.{Map, Partners, Free, Same}
 use Rattle.gmap.specs.Acts.{untied}
 use Rattle.gmap.specs.Building.{Meets, AllCut}
-use Rattle.gmap.specs.Listing.{Among, Counts}
+use Rattle.gmap.specs.Listing.{Among}
 use Rattle.gmap.proofs.Counting.{counts_none, counts_like, counts_more}
 use Rattle.gmap.proofs.Listing.{among_cases, among_suc, among_last, among_split}
 use Rattle.gmap.proofs.Acts.{untied_frame, untied_left, untied_right, untied_rest}

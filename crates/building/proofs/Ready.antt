@@ -1,14 +1,14 @@
 -- Sides that are ready to be tied: the pairs fit, and they are the tuples of one side with their mates.
-use Rattle.std.proofs.Common.{◌≡◌, ℕ, ◌*◌, ◌<◌, ◌≤◌, true, ◌⊎◌, List, [], ◌∷◌, length, get_or, sym, ap, ◌∙◌, subst, inl, inr, ⊎_elim, arith}
+use Rattle.std.proofs.Common.{◌≡◌, ℕ, ◌*◌, ◌<◌, ◌⊎◌, List, [], ◌∷◌, length, get_or, sym, ◌∙◌, subst, inl, inr, ⊎_elim, arith}
 use Rattle.std.proofs.lemmas.Bool.{cases_Bool}
-use Rattle.gmap.specs.Map.{Map, Partners, Far, Free}
+use Rattle.gmap.specs.Map.{Map, Partners}
 use Rattle.gmap.specs.Acts.{tie_checks}
 use Rattle.gmap.specs.Orbits.{FarOrbit, here, step}
 use Rattle.gmap.specs.Building.{Pair, given, turned, moved, Fits, join_checks}
 use Rattle.gmap.specs.Listing.{Among}
 use Rattle.gmap.specs.Outcome.{Passes}
 use Rattle.gmap.proofs.Outcomes.{passes_both}
-use Rattle.building.specs.Mates.{Joinable, OnSides, Matched}
+use Rattle.building.specs.Mates.{Joinable}
 use Rattle.building.specs.Tying.{Ready, PairsOf, Tieable}
 use Rattle.building.proofs.Couples.{pair_sym, pair_apart, pair_live, pair_side, side_pair}
 
