@@ -5,8 +5,8 @@ use Rattle.splitting.proofs.Places.{seated_kept, ranks_kept}
 use Rattle.splitting.proofs.Linking.{all_only, all_free, all_more}
 use Rattle.splitting.proofs.links.link_all.Goals as goal
 
-pub link-new-requires : goal.link-new-requires
-link-new-requires g c =
+pub link_new-requires : goal.link_new-requires
+link_new-requires g c =
     let w = c.loop-j.invariant in
     let only = all_only _ _ _ _ _ c.requires.seated c.loop-j.j c.loop-j.auto.j _ w in
     record {
@@ -15,7 +15,7 @@ link-new-requires g c =
     }
 
 pub loop-j-preserved : goal.loop-j-preserved
-loop-j-preserved g c = all_more _ _ _ _ _ c.requires.seated c.loop-j.j c.loop-j.auto.j _ c.loop-j.invariant _ c.in-ok-link-new.ensures
+loop-j-preserved g c = all_more _ _ _ _ _ c.requires.seated c.loop-j.j c.loop-j.auto.j _ c.loop-j.invariant _ c.in_ok-link_new.ensures
 
 pub returns : goal.returns
 returns g c =
