@@ -9,7 +9,7 @@
 --   Closable  the tuples of a list are different, and free in every switch
 --   Closed    the slots of a set are vacant, and nothing else is changed
 --   TakenOut  the slots of a list are vacant, and the tuples around them are partners across it
-use Rattle.std.specs.Prelude.{◌≡◌, ℕ, ◌+◌, ◌<◌, ◌≤◌, true, false, ◌⊎◌, List, length, set, ◌≢◌, slice_index, slice_set}
+use Rattle.std.specs.Prelude.{◌≡◌, ℕ, ◌+◌, ◌<◌, ◌≤◌, true, false, ◌⊎◌, List, length, ◌≢◌, slice_index, slice_set}
 use Rattle.gmap.specs.Map.{Map, Free}
 use Rattle.gmap.specs.Building.{Meets}
 use Rattle.gmap.specs.Listing.{Among}
