@@ -1,7 +1,7 @@
 -- A list of calls, one call after another.
 use Rattle.std.proofs.Common.{◌≡◌, ℕ, ◌+◌, ◌<◌, ◌≤◌, List, [], ◌∷◌, ◌++◌, length, get_or, take, Ok, Err, Result, sym, refl, ap, ◌∙◌, subst}
 use Rattle.std.proofs.lemmas.List.{take_more, take_all}
-use Rattle.gmap.specs.Map.{Map, Same}
+use Rattle.gmap.specs.Map.{Map}
 use Rattle.gmap.specs.declared.refusal.Refusal.{Refusal}
 use Rattle.gmap.proofs.Same.{same_refl, same_path}
 use Rattle.protection.specs.Runs.{Answered, Does, Run, each, Performed}
