@@ -2,7 +2,6 @@
 use Rattle.std.proofs.Common.{◌++◌, vec_items, refl, ap, ◌∙◌, rules}
 use Rattle.std.proofs.lemmas.List.{with_items_is}
 use Rattle.reading.specs.Requests.{request_of}
-use Rattle.reading.proofs.Cuts.{length_behind}
 use Rattle.script.specs.Printing.{printed}
 use Rattle.script.specs.Replies.{answer_of}
 use Rattle.script.proofs.Plays.{playing_none, playing_more, playing_done}
@@ -10,21 +9,18 @@ use Rattle.script.proofs.Readings.{some_bytes, read_from}
 use Rattle.script.proofs.print.play.play.Goals as goal
 
 pub loop-rest-init : goal.loop-rest-init
-loop-rest-init g c = playing_none _ _ _ _ _ _ c.in-ok-scratch.ensures.len c.in-ok-list.ensures.len c.size-size.ensures
-
-pub loop-rest-smaller : goal.loop-rest-smaller
-loop-rest-smaller g c = search (rules, length_behind)
+loop-rest-init g c = playing_none _ _ _ _ _ _ c.in_ok-scratch.ensures.len c.in_ok-list.ensures.len c.size-size.ensures
 
 pub loop-rest-preserved : goal.loop-rest-preserved
 loop-rest-preserved g c =
     let some = some_bytes c.loop-rest.rest.now c.loop-rest-test.ensures in
-    let split = c.split-first.ensures in
-    let request = read_from request_of c.in-ok-found.ensures c.as-slice.ensures.value refl in
-    let scratch_long = c.as-mut-slice.ensures.len in
-    let list_long = c.as-mut-slice-in-loop-rest.ensures.len in
-    let list = c.as-slice-in-loop-rest.ensures.value ∙ with_items_is c.loop-rest.list c.answer-reply.new.list (c.answer-reply.auto.list ∙ list_long) in
+    let split = c.split_first.ensures in
+    let request = read_from request_of c.in_ok-found.ensures c.as_slice.ensures.value refl in
+    let scratch_long = c.as_mut_slice.ensures.len in
+    let list_long = c.as_mut_slice-in-loop-rest.ensures.len in
+    let list = c.as_slice-in-loop-rest.ensures.value ∙ with_items_is c.loop-rest.list c.answer-reply.new.list (c.answer-reply.auto.list ∙ list_long) in
     playing_more _ _ _ _ _ _ _ _ _ _ _ _ _ _ _ _ _ c.loop-rest.invariant some split.front split.back request scratch_long list_long c.answer-reply.ensures
-    (c.in-ok-push-line.ensures ∙ ap (λ x. vec_items c.loop-rest.out ++ printed c.loop-rest.line (answer_of c.answer-reply.result x)) list)
+    (c.in_ok-push_line.ensures ∙ ap (λ x. vec_items c.loop-rest.out ++ printed c.loop-rest.line (answer_of c.answer-reply.result x)) list)
 
 pub returns : goal.returns
 returns g c = playing_done _ _ _ _ _ _ _ _ _ (g.met.B.GMap.partners c.args.board.now) c.requires.fresh c.loop-rest.invariant (search rules)

@@ -8,27 +8,27 @@ use Rattle.script.proofs.Readings.{some_bytes, read_from}
 use Rattle.script.proofs.Scripts.{opening_small, script_none, script_refused, script_played}
 use Rattle.script.proofs.print.play.run.Goals as goal
 
-pub returns-then-is-empty : goal.returns-then-is-empty
-returns-then-is-empty c = script_none c.args.script.now _ (eqb-true _ _ (sym c.if-is-empty.ensures))
+pub returns-then-is_empty : goal.returns-then-is_empty
+returns-then-is_empty c = script_none c.args.script.now _ (eqb-true _ _ (sym c.if-is_empty.ensures))
 
 pub start-requires : goal.start-requires
 start-requires c =
-    let some = some_bytes c.args.script.now c.if-is-empty.ensures in
-    let small = opening_small (map sense c.as-slice.result.now) _ c.in-Ok.ensures.value in
-    record { few = omega (arith, length_behind 10 c.args.script.now some, ap length c.split-first.ensures.back); top = small.0; size = small.1 }
+    let some = some_bytes c.args.script.now c.if-is_empty.ensures in
+    let small = opening_small (map sense c.as_slice.result.now) _ c.in-Ok.ensures.value in
+    record { few = omega (arith, length_behind 10 c.args.script.now some, ap length c.split_first.ensures.back); top = small.0; size = small.1 }
 
 pub returns-in-Ok : goal.returns-in-Ok
 returns-in-Ok c =
-    let some = some_bytes c.args.script.now c.if-is-empty.ensures in
-    let opening = read_from opening_of c.in-ok-found.ensures c.as-slice.ensures.value c.in-Ok.ensures.value in
+    let some = some_bytes c.args.script.now c.if-is_empty.ensures in
+    let opening = read_from opening_of c.in_ok-found.ensures c.as_slice.ensures.value c.in-Ok.ensures.value in
     IfOk-weaker c.start.result _ _
-    (λ _ played. script_played _ _ some c.if-script-gt-LONGEST.false c.split-first.ensures.front _ _ _ _ _ opening c.split-first.ensures.back c.in-ok-push-line.ensures played)
+    (λ _ played. script_played _ _ some c.if-script-gt-LONGEST.false c.split_first.ensures.front _ _ _ _ _ opening c.split_first.ensures.back c.in_ok-push_line-in-Ok.ensures played)
     c.start.ensures
 
 pub returns : goal.returns
 returns c =
-    let some = some_bytes c.args.script.now c.if-is-empty.ensures in
-    let opening = read_from opening_of c.in-ok-found.ensures c.as-slice.ensures.value c.in-Err.ensures.value in
-    IfOk-weaker c.push-line-in-Err.result _ _
-    (λ _ printed. script_refused _ _ some c.if-script-gt-LONGEST.false c.split-first.ensures.front _ _ _ opening printed)
-    c.push-line-in-Err.ensures
+    let some = some_bytes c.args.script.now c.if-is_empty.ensures in
+    let opening = read_from opening_of c.in_ok-found.ensures c.as_slice.ensures.value c.in-Err.ensures.value in
+    IfOk-weaker c.push_line-in-Err.result _ _
+    (λ _ printed. script_refused _ _ some c.if-script-gt-LONGEST.false c.split_first.ensures.front _ _ _ opening printed)
+    c.push_line-in-Err.ensures
