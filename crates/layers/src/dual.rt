@@ -56,10 +56,12 @@ impl<B: GMapMut> GMapMut for Dual<B> {
         self.below.open_slot(t)
     }
 
+    #[tactic(auto, using(crate::proofs::DualActs::close_dual))]
     fn close_slot(&mut self, t: u16) -> Result<(), Refusal> {
         self.below.close_slot(t)
     }
 
+    #[tactic(auto, using(crate::proofs::DualActs::tie_dual))]
     fn tie(&mut self, i: u16, t: u16, u: u16) -> Result<(), Refusal> {
         let top = self.below.top();
         if i > top {

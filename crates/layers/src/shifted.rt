@@ -38,6 +38,7 @@ fn reduced(size: u16, first: u16) -> u16
 }
 
 // The slot below that slot t stands for.
+#[tactic(auto, using(crate::specs::Shift::down_low, crate::specs::Shift::down_high))]
 fn down(size: u16, first: u16, t: u16) -> u16
     requires slot { t < size }
     requires few { size ≤ 4096 }
