@@ -1,12 +1,12 @@
 -- Join and part, by their tables of refusals and the maps that they leave.
 --   short_of  the scratch has fewer than four entries to a slot
---   Pair     the pairs that a join collects
---   Fits     they can be tied
---   AllTied  pairs are tied in a switch, and nothing else is changed
---   Joined   the pairs of a join are tied
---   Meets    a link has an end in a set
---   AllCut   such links are cut, and nothing else is changed
---   Parted   the links at a far orbit are cut
+--   Pair      the pairs that a join collects
+--   Fits      they can be tied
+--   AllTied   pairs are tied in a switch, and nothing else is changed
+--   Joined    the pairs of a join are tied
+--   Meets     a link has an end in a set
+--   AllCut    such links are cut, and nothing else is changed
+--   Parted    the links at a far orbit are cut
 use Rattle.std.specs.Prelude.{◌≡◌, ℕ, ◌*◌, ◌<◌, ◌⊎◌, List, [], ◌∷◌, ◌++◌}
 use Rattle.gmap.specs.Map.{Map, Far, Free, DiffersIn}
 use Rattle.gmap.specs.Listing.{Counts}

@@ -1,8 +1,8 @@
 -- What is laid out in memory that is lent.
 --   rows_need   how many numbers rows need
 --   slips_need  how many records slips need
---   TooLarge   the top or the size is out of range, or the memory has too few places
---   Laid       an empty map of that top and size, or one of top 0 with no slots
+--   TooLarge    the top or the size is out of range, or the memory has too few places
+--   Laid        an empty map of that top and size, or one of top 0 with no slots
 use Rattle.std.specs.Prelude.{◌≡◌, ℕ, ◌+◌, ◌*◌, ◌/◌, ◌<◌, ◌⊎◌}
 use Rattle.gmap.specs.Map.{Map, Fresh}
 

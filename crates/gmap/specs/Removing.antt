@@ -1,8 +1,8 @@
 -- A removal: a cell is taken out and its border closed, by its table of refusals and the map that it leaves.
---   Leads         the walk across the cell
---   Twist         the two switches above do not commute on the cell
+--   Leads          the walk across the cell
+--   Twist          the two switches above do not commute on the cell
 --   remove_checks  why a removal is refused
---   Removed       the cell is vacant, and the tuples around it are partners across it
+--   Removed        the cell is vacant, and the tuples around it are partners across it
 use Rattle.std.specs.Prelude.{◌≡◌, ℕ, ◌+◌, ◌≤◌, false, List, [], ◌∷◌, ◌≢◌}
 use Rattle.gmap.specs.Map.{Map}
 use Rattle.gmap.specs.Listing.{Counts}

@@ -1,11 +1,11 @@
 -- A ring: the tuples met where two neighbouring switches take turns.
---   walk        the tuple at each step
+--   walk         the tuple at each step
 --   ring_checks  why a ring is refused
---   Open        a tuple is free in one of the two switches
---   Ring        the steps up to the first even one that is back at the start
---   OnRing      what the two switches reach from a tuple
---   Places      where a number stands in a list
---   Encircles   a list has just what the two switches reach, each tuple once, or each twice
+--   Open         a tuple is free in one of the two switches
+--   Ring         the steps up to the first even one that is back at the start
+--   OnRing       what the two switches reach from a tuple
+--   Places       where a number stands in a list
+--   Encircles    a list has just what the two switches reach, each tuple once, or each twice
 use Rattle.std.specs.Prelude.{◌≡◌, ℕ, zero, suc, ◌+◌, ◌-◌, ◌*◌, ◌%◌, ◌<◌, ◌≤◌, Bool, false, ◌⊎◌, List, [], ◌∷◌, length, MatchBool, ◌≢◌, slice_index}
 use Rattle.gmap.specs.Map.{Map, Free}
 use Rattle.gmap.specs.Listing.{Counts}

@@ -1,8 +1,8 @@
 -- A split: a new vertex on an edge, by its table of refusals and the map that it leaves.
---   Beside       the new tuple beside a tuple of the edge
---   Taken        a new number is no slot, or taken
+--   Beside        the new tuple beside a tuple of the edge
+--   Taken         a new number is no slot, or taken
 --   split_checks  why a split is refused
---   SplitAt      the new tuples stand on the edge, and nothing else is changed
+--   SplitAt       the new tuples stand on the edge, and nothing else is changed
 use Rattle.std.specs.Prelude.{◌≡◌, ℕ, ◌+◌, ◌<◌, ◌≤◌, true, false, ◌⊎◌, List, [], ◌∷◌}
 use Rattle.gmap.specs.Map.{Map}
 use Rattle.gmap.specs.Listing.{Counts}

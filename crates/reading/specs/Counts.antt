@@ -1,9 +1,9 @@
 -- Words that are just so many numbers.
---   counted  the number that a word says
+--   counted   the number that a word says
 --   one_of    just one number
 --   two_of    just two numbers
 --   three_of  just three numbers
---   both     what two values make, if both are there
+--   both      what two values make, if both are there
 use Rattle.std.specs.Prelude.{ℕ, List, [], ◌∷◌, Some, None, Option}
 use Rattle.reading.specs.Words.{Sense, names, orders, counts, nothing}
 

@@ -1,7 +1,7 @@
 -- The number that a word writes.
 --   digit_of    the digit that a byte writes
 --   all_digits  a word has only digits
---   value      the number that the first k digits of a word write
+--   value       the number that the first k digits of a word write
 --   number_of   1 to 5 digits that write at most 65,535 are a number, and any other word is none
 use Rattle.std.specs.Prelude.{ℕ, zero, suc, ◌+◌, ◌-◌, ◌*◌, Bool, true, cond, ◌&&◌, List, [], ◌∷◌, length, is_some, Some, None, Option, nat_le, slice_index}
 

@@ -1,6 +1,6 @@
 -- What the first line of a script opens.
---   opens          the words of an opening
---   TooLarge       its numbers are out of bounds
+--   opens           the words of an opening
+--   TooLarge        its numbers are out of bounds
 --   opening_checks  why a first line is refused
 --   opening_of      the opening that words are, or its refusal
 use Rattle.std.specs.Prelude.{◌≡◌, ℕ, ◌<◌, cond, ◌&&◌, ◌⊎◌, List, [], ◌∷◌, Some, None, Ok, Err, Option, Result, nat_le}

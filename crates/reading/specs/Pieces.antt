@@ -1,9 +1,9 @@
 -- Bytes cut at a separator, into lines and words.
---   before   the bytes before the first separator
---   behind   the bytes behind the first separator
---   Parted   two parts are what stands before and behind the first separator
---   pieces   what the separators end, and what stands behind the last
---   filled   the pieces that are not empty
+--   before    the bytes before the first separator
+--   behind    the bytes behind the first separator
+--   Parted    two parts are what stands before and behind the first separator
+--   pieces    what the separators end, and what stands behind the last
+--   filled    the pieces that are not empty
 --   lines_of  the lines of a script
 --   words_of  the words of a line
 use Rattle.std.specs.Prelude.{◌≡◌, ℕ, cond, ◌⊎◌, List, [], ◌∷◌, ◌++◌, ◌==◌, ◌≢◌}

@@ -1,5 +1,5 @@
 -- What a line asks for.
---   asks           the words by which a request is asked for
+--   asks            the words by which a request is asked for
 --   request_checks  why a line is refused
 --   request_of      the request that words ask for, or its refusal
 use Rattle.std.specs.Prelude.{◌≡◌, ℕ, List, [], ◌∷◌, Some, None, Option, Result}

@@ -1,13 +1,13 @@
 -- What a word says.
 --   kind_of     the kind of storage that bytes name
 --   command_of  the command that bytes name
---   Sense      what a word says: a kind, a command, a number, or nothing
+--   Sense       what a word says: a kind, a command, a number, or nothing
 --   sense_of    what bytes say as a word
---   sense      what a word of the program says
+--   sense       what a word of the program says
 --   text_of     its bytes
 --   line_of     the number of its line
 --   word_of     the word of the program that a part of the script is
---   Reads      a list has the words of a line, in order
+--   Reads       a list has the words of a line, in order
 use Rattle.std.specs.Prelude.{◌≡◌, ℕ, cond, List, map, Some, None, codes, Option}
 use Rattle.std.specs.List.{AllByRecursion as All}
 use Rattle.std.specs.Str.{bytes_eq}

@@ -25,7 +25,3 @@ keeps top size xs ys live sound long here back = record {
   back = back;
   alike = λ j x h. here j x h ∙ sym (here 0 x zero-le);
 }
-
--- the same, as ghost fields take it
-pub fields : {top size : ℕ} {xs : List ℕ} → Sound top size xs → (top ≤ 7) × ((size ≤ 4096) × ((rows_need top size ≤ length xs) × (Back top size xs × (Alike top size xs × Unit {0}))))
-fields sound = (sound.low, (sound.few, (sound.room, (sound.back, (sound.alike, tt)))))

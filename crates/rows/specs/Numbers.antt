@@ -1,11 +1,11 @@
 -- Rows of numbers, and the map that they hold.
 --   number_at  number t of row i
---   holds     slot t is not vacant in row i
+--   holds      slot t is not vacant in row i
 --   rows_map   the map
---   Back      a partner's partner is the tuple itself
---   Alike     a slot is vacant in every row or in none
---   Sound     what holds of the numbers of every storage
---   Filled    a slot has one number in the first rows, and all else is as before
+--   Back       a partner's partner is the tuple itself
+--   Alike      a slot is vacant in every row or in none
+--   Sound      what holds of the numbers of every storage
+--   Filled     a slot has one number in the first rows, and all else is as before
 use Rattle.std.specs.Prelude.{◌≡◌, ℕ, ◌+◌, ◌*◌, ◌<◌, ◌≤◌, Bool, cond, not, ◌&&◌, List, length, ◌==◌, nat_le, nat_lt, slice_index}
 use Rattle.gmap.specs.Map.{Map}
 use Rattle.gmap.specs.Laying.{rows_need}

@@ -1,18 +1,18 @@
 -- Records in blocks, and the map that they hold.
 --   link_at    record k of the block of switch i
---   living    slot t is live
---   opposite  the other end of a link of t
+--   living     slot t is live
+--   opposite   the other end of a link of t
 --   slips_map  the map
---   Named     a record is a link of x
---   Twice     two records of a block have an end in common
---   belongs   a record may stand at place p
---   Tidy      each record stands where it belongs
---   Alive     the ends of a link are tuples
---   Apart     they are two
---   Single    a tuple has one link in a switch
---   Sound     what holds of the records of every storage
---   Foremost  the first place in a block that passes a test
---   Found     that place, if there is one
+--   Named      a record is a link of x
+--   Twice      two records of a block have an end in common
+--   belongs    a record may stand at place p
+--   Tidy       each record stands where it belongs
+--   Alive      the ends of a link are tuples
+--   Apart      they are two
+--   Single     a tuple has one link in a switch
+--   Sound      what holds of the records of every storage
+--   Foremost   the first place in a block that passes a test
+--   Found      that place, if there is one
 use Rattle.std.specs.Prelude.{◌≡◌, ℕ, zero, suc, ◌+◌, ◌*◌, ◌/◌, ◌<◌, ◌≤◌, Bool, true, false, cond, ◌&&◌, List, length, Option, MatchOption, ◌≢◌, nat_le, nat_lt, slice_index_or}
 use Rattle.gmap.specs.Map.{Map}
 use Rattle.gmap.specs.Laying.{slips_need}

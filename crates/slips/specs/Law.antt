@@ -82,7 +82,3 @@ free_in_all {m} {n} {t} law h free i = elim (cases_lt i n) [ inl l ↦ free i l 
 -- what a storage's ghost fields say
 pub sound_of : (s : Slips) → Sound s.top s.size s.records.now
 sound_of s = record { low = s.low; few = s.few; room = s.room; tidy = s.tidy; alive = s.alive; apart = s.apart; single = s.single }
-
--- the same, as ghost fields take it
-pub fields : {top size : ℕ} {rs : List Record} → Sound top size rs → (top ≤ 7) × ((size ≤ 4096) × ((slips_need top size ≤ length rs) × (Tidy top size rs × (Alive top size rs × (Apart top size rs × (Single top size rs × Unit {0}))))))
-fields sound = (sound.low, (sound.few, (sound.room, (sound.tidy, (sound.alive, (sound.apart, (sound.single, tt)))))))

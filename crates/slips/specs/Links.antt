@@ -1,8 +1,8 @@
 -- What one record says.
 --   says_something  it says something
---   says_slot  a slot is live
---   names   it is a link of x
---   other   the other end of a link of x
+--   says_slot       a slot is live
+--   names           it is a link of x
+--   other           the other end of a link of x
 use Rattle.std.specs.Prelude.{ℕ, Bool, true, false, cond, ◌||◌, ◌==◌}
 use Rattle.slips.specs.declared.record.Record.{Record}
 use Rattle.slips.specs.declared.record.Record.TheVariants.{Unused, Slot, Link}

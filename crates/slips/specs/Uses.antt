@@ -1,7 +1,7 @@
 -- How many records a map takes.
 --   up_to    the first n of some numbers, added up
 --   used_in  how many of the first n records are used
---   Uses    n is the number of tuples and of the links in all switches
+--   Uses     n is the number of tuples and of the links in all switches
 use Rattle.std.specs.Prelude.{◌≡◌, ℕ, zero, suc, ◌+◌, ◌<◌, ◌≤◌, true, cond, List, slice_index_or}
 use Rattle.gmap.specs.Map.{Map}
 use Rattle.gmap.specs.Listing.{Counts}

@@ -1,12 +1,12 @@
 -- The edge that is split, as a list of its tuples, and the slots of the new tuples, which are numbered from f on.
---   under       the switch of the edge that a switch of the new vertex mirrors
---   place       where the partner of the tuple at a place stands
---   Edge        the first entries of a list are different tuples, and their partners in all switches but 1 are among them
---   Ranks       another list has their places
---   Vacancies   the slots of the new tuples are there, and vacant
---   Seated      the new tuples are there, beside those of the edge
---   Linkable    they are free in a switch above 0
---   Tieable     they are free in switch 0
+--   under        the switch of the edge that a switch of the new vertex mirrors
+--   place        where the partner of the tuple at a place stands
+--   Edge         the first entries of a list are different tuples, and their partners in all switches but 1 are among them
+--   Ranks        another list has their places
+--   Vacancies    the slots of the new tuples are there, and vacant
+--   Seated       the new tuples are there, beside those of the edge
+--   Linkable     they are free in a switch above 0
+--   Tieable      they are free in switch 0
 --   edge_checks  why a split is refused that has enough memory and a switch above 0
 use Rattle.std.specs.Prelude.{◌≡◌, ℕ, ◌+◌, ◌<◌, ◌≤◌, true, false, cond, List, [], ◌∷◌, length, ◌==◌, ◌≢◌, slice_index}
 use Rattle.gmap.specs.Map.{Map, Free}
