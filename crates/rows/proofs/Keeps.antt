@@ -1,8 +1,7 @@
 -- What changed numbers still hold.
 use Rattle.std.proofs.Common.{◌≡◌, ℕ, ◌<◌, ◌≤◌, Bool, false, eqb, leb, List, length, sym, refl, ◌∙◌, inl, inr, zero-le, arith}
 use Rattle.std.proofs.lemmas.Bool.{cases_lt, le-ltb, ne_eqb, and_right}
-use Rattle.gmap.specs.Laying.{rows_need}
-use Rattle.rows.specs.Numbers.{number_at, holds, rows_map, Back, Alike, Sound}
+use Rattle.rows.specs.Numbers.{number_at, holds, rows_map, Back, Sound}
 
 -- the number of a tuple is not that of a vacant slot
 pub not_vacant : {size x : ℕ} → size ≤ 4096 → x < size → eqb x 65535 ≡ false

@@ -1,11 +1,10 @@
 -- Slips hold a map that keeps the law of partners.
-use Rattle.std.specs.Prelude.{◌≡◌, ℕ, ◌+◌, ◌*◌, ◌/◌, ◌<◌, ◌≤◌, true, false, ◌⊎◌, List, length, nat_lt, slice_index_or, refl}
+use Rattle.std.specs.Prelude.{◌≡◌, ℕ, ◌+◌, ◌*◌, ◌/◌, ◌<◌, ◌≤◌, true, false, ◌⊎◌, List, nat_lt, slice_index_or, refl}
 use Rattle.std.proofs.Common.{sym, ap, ◌∙◌, inl, inr, arith}
 use Rattle.std.proofs.lemmas.Bool.{cases_lt, cases_Bool, both_ways, le-leb, lt-leb, ltb-true, and_parts}
-use Rattle.gmap.specs.Laying.{slips_need}
 use Rattle.gmap.specs.Map.{Map, Partners, Free}
 use Rattle.slips.specs.Links.{names, other}
-use Rattle.slips.specs.Blocks.{link_at, living, slips_map, Named, Tidy, Alive, Apart, Single, Sound}
+use Rattle.slips.specs.Blocks.{link_at, living, slips_map, Named, Sound}
 use Rattle.slips.specs.declared.record.Record.{Record}
 use Rattle.slips.specs.declared.record.Record.TheVariants.{Unused}
 use Rattle.slips.specs.declared.slips.Slips.{Slips}
