@@ -1,6 +1,6 @@
 -- Bytes cut at a separator, byte by byte and piece by piece.
 use Rattle.std.proofs.Common.{◌≡◌, ℕ, ◌+◌, ◌-◌, ◌<◌, List, [], ◌∷◌, ◌++◌, length, get_or, take, drop, sym, refl, ap, ◌∙◌, inl, inr, add-zero, arith}
-use Rattle.std.specs.List.{AllByRecursion as All}
+use Rattle.std.specs.List.{AllByRecursion}
 use Rattle.std.proofs.ByRecursion.{All-more}
 use Rattle.std.proofs.lemmas.List.{take_rest, take_all, drop-drop, length-drop, get_or-drop, nil_from_length, take-append-drop}
 use Rattle.std.proofs.lemmas.Slice.{first_rest}
@@ -11,11 +11,11 @@ use Rattle.reading.specs.Pieces.{before, behind, pieces, Parted}
 abbrev Other : ℕ → ℕ → Type 0
 Other b c = c ≡ b → ⊥
 
-cut_at : (b : ℕ) (front back : List ℕ) → All (Other b) front → (front ≡ before b (front ++ (b ∷ back))) × (back ≡ behind b (front ++ (b ∷ back)))
+cut_at : (b : ℕ) (front back : List ℕ) → AllByRecursion (Other b) front → (front ≡ before b (front ++ (b ∷ back))) × (back ≡ behind b (front ++ (b ∷ back)))
 cut_at b [] back none = grind (arith, nat_tests)
 cut_at b (c ∷ front) back none = let more = cut_at b front back none.1 in grind (arith, nat_tests)
 
-cut_none : (b : ℕ) (front : List ℕ) → All (Other b) front → (front ≡ before b front) × ([] ≡ behind b front)
+cut_none : (b : ℕ) (front : List ℕ) → AllByRecursion (Other b) front → (front ≡ before b front) × ([] ≡ behind b front)
 cut_none b [] none = (refl, refl)
 cut_none b (c ∷ front) none = let more = cut_none b front none.1 in grind (arith, nat_tests)
 
@@ -27,7 +27,7 @@ parted_is b s front back h = let at = cut_at b front back h.none in let none = c
 pub record Cutting (b n : ℕ) (s t : List ℕ) : Type 0 where
   pub long : n + length t ≡ length s
   pub left : t ≡ drop n s
-  pub none : All (λ c. c ≡ b → ⊥) (take n s)
+  pub none : AllByRecursion (λ c. c ≡ b → ⊥) (take n s)
 
 -- what a pattern `[first, rest @ ..]` has for the rest
 abbrev rest : List ℕ → List ℕ

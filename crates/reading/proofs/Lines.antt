@@ -1,6 +1,6 @@
 -- The words of a line, read one by one.
 use Rattle.std.proofs.Common.{◌≡◌, ℕ, ◌<◌, List, [], ◌∷◌, ◌++◌, map, length, sym, refl, ap, ◌∙◌, append_assoc, append-nil, arith}
-use Rattle.std.specs.List.{AllByRecursion as All}
+use Rattle.std.specs.List.{AllByRecursion}
 use Rattle.std.proofs.ByRecursion.{All-push}
 use Rattle.std.proofs.lemmas.List.{map_push}
 use Rattle.reading.specs.declared.word.Part.{Part}
@@ -31,7 +31,7 @@ words_some l some more = let step = pieces_step 32 l some in grind arith
 pub record Reading (n : ℕ) (ws : List Word) (t l : List ℕ) : Type 0 where
   pub texts : map text_of ws ++ words_of t ≡ words_of l
   pub senses : map sense ws ++ map sense_of (words_of t) ≡ map sense_of (words_of l)
-  pub line : All (λ w. line_of w ≡ n) ws
+  pub line : AllByRecursion (λ w. line_of w ≡ n) ws
 
 -- a word more, in place of what is left
 moved : {X : Type 0} (f : Word → X) (ws : List Word) (w : Word) (more : List X) → map f (ws ++ w ∷ []) ++ more ≡ map f ws ++ (f w ∷ more)

@@ -7,7 +7,7 @@
 --   lines_of  the lines of a script
 --   words_of  the words of a line
 use Rattle.std.specs.Prelude.{◌≡◌, ℕ, cond, ◌⊎◌, List, [], ◌∷◌, ◌++◌, ◌==◌, ◌≢◌}
-use Rattle.std.specs.List.{AllByRecursion as All}
+use Rattle.std.specs.List.{AllByRecursion}
 
 abbrev pub before : ℕ → List ℕ → List ℕ
 before b [] = []
@@ -20,7 +20,7 @@ behind b (c ∷ cs) = cond (c == b) cs (behind b cs)
 -- s is front, b and back, or front alone; and no b stands in front
 pub record Parted (b : ℕ) (s front back : List ℕ) : Type 0 where
   pub whole : (front ++ (b ∷ back) ≡ s) ⊎ ((front ≡ s) × (back ≡ []))
-  pub none : All (λ c. c ≢ b) front
+  pub none : AllByRecursion (λ c. c ≢ b) front
 
 -- a byte in front of the first piece, which it opens if there is none
 abbrev pub onto : ℕ → List (List ℕ) → List (List ℕ)

@@ -9,7 +9,7 @@
 --   word_of     the word of the program that a part of the script is
 --   Reads       a list has the words of a line, in order
 use Rattle.std.specs.Prelude.{◌≡◌, ℕ, cond, List, map, Some, None, codes, Option}
-use Rattle.std.specs.List.{AllByRecursion as All}
+use Rattle.std.specs.List.{AllByRecursion}
 use Rattle.std.specs.Str.{bytes_eq}
 use Rattle.reading.specs.declared.word.Kind.{Kind}
 use Rattle.reading.specs.declared.word.Kind.TheVariants as kind
@@ -86,4 +86,4 @@ word_of p = said_by (sense_of p.bytes.now) p
 pub record Reads (n : ℕ) (ws : List Word) (l : List ℕ) : Type 0 where
   pub texts : map text_of ws ≡ words_of l
   pub senses : map sense ws ≡ map sense_of (words_of l)
-  pub line : All (λ w. line_of w ≡ n) ws
+  pub line : AllByRecursion (λ w. line_of w ≡ n) ws

@@ -2,15 +2,15 @@
 use Rattle.std.proofs.Common.{◌≡◌, ℕ, zero, suc, ◌+◌, ◌<◌, ◌≤◌, true, List, length, get_or, sym, refl, ap, ◌∙◌, subst, arith, below_more}
 use Rattle.gmap.specs.Map.{Map, Partners}
 use Rattle.gmap.specs.Orbits.{Cell}
-use Rattle.gmap.specs.Removing.{Leads, out as leads-out, on as leads-on}
+use Rattle.gmap.specs.Removing.{Leads, out as leads_out, on as leads_on}
 use Rattle.gmap.proofs.Pigeon.{pigeon}
 use Rattle.removal.specs.Crossing.{In, Enters, onward, Crosses, out, on, Trail}
 use Rattle.removal.specs.Stages.{Celled}
 
 -- across the tuples of a cell, the walk is that of a removal
 pub crosses_leads : (m : Map) (i t : ℕ) (xs : List ℕ) → ((x : ℕ) → In xs x → Cell m i t x) → ((x : ℕ) → Cell m i t x → In xs x) → {x y : ℕ} → Crosses m i xs x y → Leads m i t x y
-crosses_leads m i t xs to fro (out {x} q) = leads-out (λ p. q (fro x p))
-crosses_leads m i t xs to fro (on {x} p o) = leads-on (to x p) (crosses_leads m i t xs to fro o)
+crosses_leads m i t xs to fro (out {x} q) = leads_out (λ p. q (fro x p))
+crosses_leads m i t xs to fro (on {x} p o) = leads_on (to x p) (crosses_leads m i t xs to fro o)
 
 shift : (m : Map) (i a k : ℕ) → onward m i (m.partner i (m.partner (i + 1) a)) k ≡ onward m i a (suc k)
 shift m i a zero = refl
