@@ -8,7 +8,6 @@ ghost item or clause of an .rt file. Names that the check makes (answers to a go
 types, modules and functions.
 """
 import re
-import subprocess
 import sys
 from pathlib import Path
 

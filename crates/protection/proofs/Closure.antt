@@ -4,7 +4,7 @@ use mathlib.Core.Logic.Dec
 use native.Mathlib.Decide.{dec_lt, map_dec}
 use Rattle.std.proofs.lemmas.Bool.{cases_lt}
 use Rattle.gmap.specs.Listing.{Counts}
-use Rattle.protection.proofs.Search.{Some-below, dec_below}
+use Rattle.protection.proofs.Search.{SomeBelow, dec_below}
 use Rattle.protection.proofs.Cases.{dec_sum}
 use Rattle.protection.proofs.Counting.{counted, counts_lt, counts_few}
 
@@ -17,7 +17,7 @@ module _ {A : Type 0} (disc : Discrete A) (move : ℕ → A → A) (back : (j : 
   -- a is reached in at most k steps
   abbrev Near : ℕ → A → Type 0
   Near zero a = a ≡ t
-  Near (suc k) a = Near k a ⊎ Some-below (λ j. via j × Near k (move j a)) K
+  Near (suc k) a = Near k a ⊎ SomeBelow (λ j. via j × Near k (move j a)) K
 
   near_dec : (k : ℕ) (a : A) → Dec (Near k a)
   near_dec zero a = disc a t
@@ -63,7 +63,7 @@ module _ {A : Type 0} (disc : Discrete A) (move : ℕ → A → A) (back : (j : 
       keep a q (yes h) n = h
       keep a q (no p) n = absurd (q (n, p))
 
-      go : Dec (Some-below (Farther k) N) → ((many k).0 < (many (suc k)).0) ⊎ Settled k
+      go : Dec (SomeBelow (Farther k) N) → ((many k).0 < (many (suc k)).0) ⊎ Settled k
       go (yes (x, b, (h, q))) = inl (counts_lt (many k).1 (many (suc k)).1 (λ x h. (h.0, inl h.1)) x (b, h) (λ w. q w.1))
       go (no none) = inr (λ a n. let (x, l, e) = found a (near_reached (suc k) a n) in subst (Near k) e (keep (enum x) (λ w. none (x, l, w)) (near_dec k (enum x)) (subst (Near (suc k)) (sym e) n)))
 

@@ -42,13 +42,13 @@ module _ (i : ℕ) (m m' : Map) (near : DiffersIn i m m') where
       }
 
 -- m with another switch i
-unfoldable pub with-switch : Map → ℕ → (ℕ → ℕ) → Map
-with-switch m i f = record { size = m.size; top = m.top; live = m.live; partner = λ j x. cond (eqb j i) (f x) (m.partner j x) }
+unfoldable pub with_switch : Map → ℕ → (ℕ → ℕ) → Map
+with_switch m i f = record { size = m.size; top = m.top; live = m.live; partner = λ j x. cond (eqb j i) (f x) (m.partner j x) }
 
-pub with_frame : (m : Map) (i : ℕ) (f : ℕ → ℕ) → DiffersIn i m (with-switch m i f)
-unfolding with-switch
+pub with_frame : (m : Map) (i : ℕ) (f : ℕ → ℕ) → DiffersIn i m (with_switch m i f)
+unfolding with_switch
 with_frame m i f = record { size = refl; top = refl; live = λ t. refl; others = λ j x e. ap (λ v. cond v (f x) (m.partner j x)) (ne_eqb j i e) }
 
-pub with_here : (m : Map) (i : ℕ) (f : ℕ → ℕ) (x : ℕ) → (with-switch m i f).partner i x ≡ f x
-unfolding with-switch
+pub with_here : (m : Map) (i : ℕ) (f : ℕ → ℕ) (x : ℕ) → (with_switch m i f).partner i x ≡ f x
+unfolding with_switch
 with_here m i f x = ap (λ v. cond v (f x) (m.partner i x)) (eq-eqb i i refl)

@@ -71,7 +71,7 @@ module _ (m : Map) (law : Partners m) (t : ℕ) (alive : m.live t ≡ true) (kno
     at_new_or_old at_old z = either_way disc (N z) (f z) (g z) (λ w. subst (λ v. f v ≡ g v) w.2 (at_new w.0 w.1)) (at_old z)
 
     everywhere : ((x : ℕ) → E x → f x ≡ g x) → ((z : ℕ) → ¬ N z → ¬ E z → f z ≡ g z) → (z : ℕ) → f z ≡ g z
-    everywhere at-cell at_rest = at_new_or_old (λ z q. either_way disc (E z) (f z) (g z) (at-cell z) (at_rest z q))
+    everywhere at_cell at_rest = at_new_or_old (λ z q. either_way disc (E z) (f z) (g z) (at_cell z) (at_rest z q))
 
   zero_far : Lawful m → (j : ℕ) → 2 ≤ j → Commute m' 0 j
   zero_far lawful j l =

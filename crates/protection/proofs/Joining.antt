@@ -9,10 +9,10 @@ use Rattle.gmap.specs.Building.{Pair, given, turned, moved, Fits, Joined, join_c
 use Rattle.protection.specs.Ties.{Keeps, Ties}
 use Rattle.protection.proofs.Cases.{by_fact, by_fact_bool, stable, not_false_true}
 use Rattle.protection.proofs.Switches.{far_apart, at_each}
-use Rattle.protection.proofs.Search.{Some-below, dec_below}
+use Rattle.protection.proofs.Search.{SomeBelow, dec_below}
 use Rattle.protection.proofs.Counting.{counted, counts_single}
 use Rattle.protection.proofs.Pairs.{Touched, pair_sym, pair_free, pair_live, pair_back, pair_inside, dec_pair, dec_second}
-use Rattle.protection.proofs.Frames.{lawful_framed, partners_framed, same_framed, with-switch, with_frame, with_here}
+use Rattle.protection.proofs.Frames.{lawful_framed, partners_framed, same_framed, with_switch, with_frame, with_here}
 
 -- what a join may be asked of
 pub record Joinable (m : Map) (i t u : ℕ) : Type 0 where
@@ -133,8 +133,8 @@ module _ (m : Map) (law : Partners m) (i t u : ℕ) (left : m.live t ≡ true) (
   abbrev Two : ℕ → ℕ → Type 0
   Two x y = Pair m i t u x y × ((z : ℕ) × Pair m i t u x z × (z ≢ y))
 
-  dec_two : Dec (Some-below (λ x. Some-below (Two x) m.size) m.size)
-  dec_two = dec_below (λ x. Some-below (Two x) m.size) (λ x. dec_below (Two x) (λ y. Dec.and (dec_pair m law i t u x y) (dec_second m law i t u left right (λ z. z ≢ y) (λ z. Dec.not (ℕ_discrete z y)) x)) m.size) m.size
+  dec_two : Dec (SomeBelow (λ x. SomeBelow (Two x) m.size) m.size)
+  dec_two = dec_below (λ x. SomeBelow (Two x) m.size) (λ x. dec_below (Two x) (λ y. Dec.and (dec_pair m law i t u x y) (dec_second m law i t u left right (λ z. z ≢ y) (λ z. Dec.not (ℕ_discrete z y)) x)) m.size) m.size
 
   pub dec_fits : Lawful m → Free m i t → Free m i u → Dec (Fits m i t u)
   dec_fits lawful a b = go dec_two
@@ -142,7 +142,7 @@ module _ (m : Map) (law : Partners m) (i t u : ℕ) (left : m.live t ≡ true) (
       inside : {x y : ℕ} → Pair m i t u x y → (x < m.size) × (y < m.size)
       inside = pair_inside m law i t u left right
 
-      go : Dec (Some-below (λ x. Some-below (Two x) m.size) m.size) → Dec (Fits m i t u)
+      go : Dec (SomeBelow (λ x. SomeBelow (Two x) m.size) m.size) → Dec (Fits m i t u)
       go (yes (x, l, (y, k, (p, (z, q, n))))) = no (λ f. n (f.single x z y q p))
       go (no none) = yes (record { single = λ x y z p q. stable y z (λ n. none (x, (inside p).0, (y, (inside p).1, (p, (z, q, λ e. n (sym e)))))); loose = λ x y p. pair_free m i t u lawful a b p })
 
@@ -154,7 +154,7 @@ module _ (m : Map) (law : Partners m) (i t u : ℕ) (left : m.live t ≡ true) (
       let (n, c) = counted (λ x. (y : ℕ) × Pair m i t u x y × (x < y)) (λ x. second (λ y. x < y) (λ y. dec_lt x y) x) m.size (λ x w. (pair_inside m law i t u left right w.1).0) in (
         n,
         (
-          with-switch m i f,
+          with_switch m i f,
           record {
             frame = with_frame m i f;
             ties = λ x y p. with_here m i f x ∙ pick_in (fits.single x) (d x) (m.partner i x) y p;

@@ -42,17 +42,17 @@ module _ (goal : Map) (law : Partners goal) (lawful : Lawful goal) (k s : ℕ) (
   u_free : Free m k u
   u_free = ⊎_elim (λ e. e) (λ e. absurd (u_new (sym (b.law.back k u) ∙ (ap (m.partner k) (e ∙ law.back k s) ∙ s_free)))) (b.some u)
 
-  pub s-live : goal.live s ≡ true
-  s-live = not_false_true (goal.live s) (λ e. u_new (law.still k s e))
+  pub s_live : goal.live s ≡ true
+  s_live = not_false_true (goal.live s) (λ e. u_new (law.still k s e))
 
-  pub u-live : goal.live u ≡ true
-  u-live = law.alive k s ∙ s-live
+  pub u_live : goal.live u ≡ true
+  u_live = law.alive k s ∙ s_live
 
   pub k_known : k ≤ goal.top
   k_known = let h : goal.top < k → ⊥ = λ h. u_new (law.high k s h) in omega arith
 
   pub able : Joinable m k s u
-  able = record { switch = omega (arith, k_known, b.top); left = b.live s ∙ s-live; right = b.live u ∙ u-live; apart = λ e. u_new (sym e); left_free = s_free; right_free = u_free }
+  able = record { switch = omega (arith, k_known, b.top); left = b.live s ∙ s_live; right = b.live u ∙ u_live; apart = λ e. u_new (sym e); left_free = s_free; right_free = u_free }
 
   here : (x : ℕ) → (upto goal k).partner k x ≡ goal.partner k x
   here = upto_in goal k k (omega arith)

@@ -9,7 +9,7 @@ use Rattle.gmap.specs.Building.{Meets, Parted}
 use Rattle.protection.proofs.Cases.{by_fact, by_fact_bool, not_false_true, dec_sum}
 use Rattle.protection.proofs.Counting.{counted, counts_single}
 use Rattle.protection.proofs.Orbits.{dec_far_orbit}
-use Rattle.protection.proofs.Frames.{lawful_framed, partners_framed, same_framed, with-switch, with_frame, with_here}
+use Rattle.protection.proofs.Frames.{lawful_framed, partners_framed, same_framed, with_switch, with_frame, with_here}
 
 -- the link in i at x has an end in the far orbit of t
 abbrev pub Cut : Map → ℕ → ℕ → ℕ → Type 0
@@ -60,7 +60,7 @@ module _ (m : Map) (law : Partners m) (i t : ℕ) where
       let (n, c) = counted (λ x. Cut m i t x × (x < m.partner i x)) (λ x. Dec.and (dec_cut x) (dec_lt x (m.partner i x))) m.size (λ x w. law.inside x (not_false_true (m.live x) (λ e. omega (arith, w.1, law.still i x e)))) in (
         n,
         (
-          with-switch m i f,
+          with_switch m i f,
           record {
             frame = with_frame m i f;
             cuts = λ x h. with_here m i f x ∙ if_pos (dec_cut x) h x (m.partner i x);

@@ -8,7 +8,7 @@ use Rattle.protection.proofs.Same.{same_holds}
 use Rattle.protection.proofs.Joining.{joinable_passes, join_exists}
 use Rattle.protection.proofs.Ways.{Way, way_more}
 use Rattle.protection.proofs.Filling.{outside_vacant, Bare, all_filled}
-use Rattle.protection.proofs.Midway.{Midway, Done, done_more, k_known, s-live, u-live, able, fits, linked, linked_done}
+use Rattle.protection.proofs.Midway.{Midway, Done, done_more, k_known, s_live, u_live, able, fits, linked, linked_done}
 
 module _ (scratch : ℕ) (m₀ goal : Map) (law : Partners goal) (lawful : Lawful goal) (long : 4 * goal.size ≤ scratch) where
   abbrev Linking : ℕ → ℕ → Type 0
@@ -24,7 +24,7 @@ module _ (scratch : ℕ) (m₀ goal : Map) (law : Partners goal) (lawful : Lawfu
         linked goal law lawful k s m b ne n m' j,
         linked_done goal law lawful k s m b ne n m' j d,
         way_more scratch m₀ m (Join k s u') (Ok n) m' w
-            (omega (arith, k_known goal law lawful k s m b ne, law.low), omega (arith, law.inside s (s-live goal law lawful k s m b ne), law.few), omega (arith, law.inside u' (u-live goal law lawful k s m b ne), law.few))
+            (omega (arith, k_known goal law lawful k s m b ne, law.low), omega (arith, law.inside s (s_live goal law lawful k s m b ne), law.few), omega (arith, law.inside u' (u_live goal law lawful k s m b ne), law.few))
             (joinable_passes m scratch k s u' b.law (omega (arith, b.size)) may fit, j),
       )
 

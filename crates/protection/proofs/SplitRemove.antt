@@ -16,28 +16,28 @@ use Rattle.protection.proofs.Beside.{beside, beside_only}
 use Rattle.protection.proofs.Grown.{New, Grown, lifted, new_vacant, not_new}
 use Rattle.protection.proofs.Splitting.{split_live, split_known, split_grown}
 
-module _ (m : Map) (law : Partners m) (lawful : Lawful m) (t : ℕ) (alive : m.live t ≡ true) (known : 1 ≤ m.top) (F : ℕ → ℕ) (m₁ : Map) (d : Grown m t F m₁) (x x' : ℕ) (x-in : Cell m 1 t x) (x-new : F x ≡ x') where
+module _ (m : Map) (law : Partners m) (lawful : Lawful m) (t : ℕ) (alive : m.live t ≡ true) (known : 1 ≤ m.top) (F : ℕ → ℕ) (m₁ : Map) (d : Grown m t F m₁) (x x' : ℕ) (x_in : Cell m 1 t x) (x_new : F x ≡ x') where
   -- the new tuples are the 0-cell of each of them
   cell_new : {z : ℕ} → Cell m₁ 0 x' z → New m t F z
-  cell_new here = (x, x-in, x-new)
+  cell_new here = (x, x_in, x_new)
   cell_new (step j e h) =
       let (y, c, w) = cell_new h in
       let (k, (ne, up)) = lifted m law t alive known F m₁ d j e in
       (m.partner k y, step k ne c, sym (up y c) ∙ ap (m₁.partner j) w)
 
   new_cell_from : {z : ℕ} → Cell m 1 x z → Cell m₁ 0 x' (F z)
-  new_cell_from here = subst (Cell m₁ 0 x') (sym x-new) here
+  new_cell_from here = subst (Cell m₁ 0 x') (sym x_new) here
   new_cell_from (step {u} j e h) = go j e (new_cell_from h)
     where
       u_in : Cell m 1 t u
-      u_in = orbit_trans m law (λ j. j ≡ 1 → ⊥) x-in h
+      u_in = orbit_trans m law (λ j. j ≡ 1 → ⊥) x_in h
 
       go : (j : ℕ) → j ≢ 1 → Cell m₁ 0 x' (F u) → Cell m₁ 0 x' (F (m.partner j u))
       go zero e c = subst (Cell m₁ 0 x') (d.over u u_in) (step 1 (λ e. omega arith) c)
       go (suc j) e c = subst (Cell m₁ 0 x') (d.along u u_in (suc j) (omega arith)) (step (suc j) (λ e. omega arith) c)
 
   new_cell : {z : ℕ} → Cell m 1 t z → Cell m₁ 0 x' (F z)
-  new_cell h = new_cell_from (orbit_trans m law (λ j. j ≡ 1 → ⊥) (orbit_back m law (λ j. j ≡ 1 → ⊥) x-in) h)
+  new_cell h = new_cell_from (orbit_trans m law (λ j. j ≡ 1 → ⊥) (orbit_back m law (λ j. j ≡ 1 → ⊥) x_in) h)
 
   off_new : (z : ℕ) → ¬ Cell m₁ 0 x' z → ¬ New m t F z
   off_new z q w = q (subst (Cell m₁ 0 x') w.2 (new_cell w.1))

@@ -37,20 +37,20 @@ pub record Reading (n : ℕ) (ws : List Word) (t l : List ℕ) : Type 0 where
 moved : {X : Type 0} (f : Word → X) (ws : List Word) (w : Word) (more : List X) → map f (ws ++ w ∷ []) ++ more ≡ map f ws ++ (f w ∷ more)
 moved f ws w more = rw map_push (append_assoc (map f ws) (f w ∷ []) more)
 
-module _ (n : ℕ) (ws : List Word) (t l front back : List ℕ) (h : Reading n ws t l) (some : 0 < length t) (is_front : front ≡ before 32 t) (is-back : back ≡ behind 32 t) where
+module _ (n : ℕ) (ws : List Word) (t l front back : List ℕ) (h : Reading n ws t l) (some : 0 < length t) (is_front : front ≡ before 32 t) (is_back : back ≡ behind 32 t) where
   pub reading_skip : length front ≡ 0 → Reading n ws back l
   reading_skip none =
-      let e : words_of back ≡ words_of t = ap words_of is-back ∙ sym (words_empty t some (sym (ap length is_front) ∙ none)) in
+      let e : words_of back ≡ words_of t = ap words_of is_back ∙ sym (words_empty t some (sym (ap length is_front) ∙ none)) in
       record { texts = rw e h.texts; senses = rw e h.senses; line = h.line }
 
   pub reading_more : 0 < length front → (p : Part) → p.line ≡ n → p.bytes.now ≡ front → (vs : List Word) → vs ≡ ws ++ word_of p ∷ [] → Reading n vs back l
-  reading_more more p at is vs is-vs =
-      let e : words_of t ≡ p.bytes.now ∷ words_of back = rw (is, is_front, is-back) (words_some t some (omega (arith, ap length is_front))) in
+  reading_more more p at is vs is_vs =
+      let e : words_of t ≡ p.bytes.now ∷ words_of back = rw (is, is_front, is_back) (words_some t some (omega (arith, ap length is_front))) in
       let s = sense_of p.bytes.now in
       record {
-        texts = rw (is-vs, moved text_of ws (word_of p) (words_of back), ap (λ q. q.bytes.now) (part_said_by s p), ← e) h.texts;
-        senses = rw (is-vs, moved sense ws (word_of p) (map sense_of (words_of back)), sense_said_by s p, ← ap (map sense_of) e) h.senses;
-        line = rw is-vs (All-push (λ w. line_of w ≡ n) ws (word_of p) h.line (ap (λ q. q.line) (part_said_by s p) ∙ at));
+        texts = rw (is_vs, moved text_of ws (word_of p) (words_of back), ap (λ q. q.bytes.now) (part_said_by s p), ← e) h.texts;
+        senses = rw (is_vs, moved sense ws (word_of p) (map sense_of (words_of back)), sense_said_by s p, ← ap (map sense_of) e) h.senses;
+        line = rw is_vs (All-push (λ w. line_of w ≡ n) ws (word_of p) h.line (ap (λ q. q.line) (part_said_by s p) ∙ at));
       }
 
 pub reading_done : (n : ℕ) (ws : List Word) (t l : List ℕ) → Reading n ws t l → length t ≡ 0 → Reads n ws l

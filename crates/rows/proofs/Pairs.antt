@@ -59,13 +59,13 @@ module _ {m m' : Map} {i t u a b : ℕ} (p : Paired m i t u a b m') where
   repaired f g = record { size = m.size; top = m.top; live = m.live; partner = λ j x. cond (eqb j i && eqb x t) (f x) (cond (eqb j i && eqb x u) (g x) (m.partner j x)) }
 
   pair_same : (t ≡ u → ⊥) → (f g : ℕ → ℕ) → a ≡ f t → b ≡ g u → Same m' (repaired f g)
-  pair_same apart f g is-a is_b = record {
+  pair_same apart f g is_a is_b = record {
     size = p.frame.size;
     top = p.frame.top;
     live = p.frame.live;
     partner =
         by_place (λ j x. m'.partner j x ≡ (repaired f g).partner j x) i t u
-        (rw (eq-eqb i i refl, eq-eqb t t refl) (p.one ∙ is-a))
+        (rw (eq-eqb i i refl, eq-eqb t t refl) (p.one ∙ is_a))
         (rw (eq-eqb i i refl, eq-eqb u u refl, ne_eqb u t (λ e. apart (sym e))) (p.two ∙ is_b))
         (λ j x n o.
         let not_at : (v : ℕ) → Off i v j x → (eqb j i && eqb x v) ≡ false = λ v h. grind (arith, nat_tests) in

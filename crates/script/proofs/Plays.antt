@@ -46,13 +46,13 @@ playing_none m s old a b size scratch list is = record { few = omega arith; told
 
 module _ (m k k' : Map) (s t front back : List ℕ) (n : ℕ) (old new after : List ℕ) (a b a' b' : ℕ) (q : Result Request Refusal) (r : Result (List ℕ) Refusal) where
   pub playing_more : Playing m k s t n old new a b → 0 < length t → front ≡ before 10 t → back ≡ behind 10 t → q ≡ request_of (map sense_of (words_of front)) → a' ≡ a → b' ≡ b → Asked a' b' k q r k' → after ≡ new ++ printed n r → Playing m k' s back (n + 1) old after a b
-  playing_more h some is_front is-back is-q is-a is_b asked is =
-      let lines : lines_of t ≡ front ∷ lines_of back = rw (is_front, is-back) (pieces_step 10 t some) in
+  playing_more h some is_front is_back is_q is_a is_b asked is =
+      let lines : lines_of t ≡ front ∷ lines_of back = rw (is_front, is_back) (pieces_step 10 t some) in
       let size = asked_size a' b' k k' q r asked in
-      let says : Says k front r k' = subst (λ x. Asked x k.size k (request_of (map sense_of (words_of front))) r k') (is-a ∙ h.scratch) (subst (λ x. Asked a' x k (request_of (map sense_of (words_of front))) r k') (is_b ∙ h.list) (subst (λ x. Asked a' b' k x r k') is-q asked)) in
+      let says : Says k front r k' = subst (λ x. Asked x k.size k (request_of (map sense_of (words_of front))) r k') (is_a ∙ h.scratch) (subst (λ x. Asked a' x k (request_of (map sense_of (words_of front))) r k') (is_b ∙ h.list) (subst (λ x. Asked a' b' k x r k') is_q asked)) in
       let done = h.told.0 in
       record {
-        few = omega (arith, h.few, length_behind 10 t some, ap length is-back);
+        few = omega (arith, h.few, length_behind 10 t some, ap length is_back);
         told = (
           done ++ printed n r,
           is ∙ ap (λ x. x ++ printed n r) h.told.1 ∙ append_assoc old done (printed n r),
