@@ -28,7 +28,7 @@ pub trait Reads {
 }
 
 // A generalized map: its meaning keeps the law of partners.
-// The law stands apart from the answers, since a type with a lifetime then owes it in a few lines.
+// The law stands apart from the answers: they are proved first, and an impl then owes it by the lemma that proves it.
 pub trait GMap: Reads {
     ghost partners: { (c : Self) → Partners (Self.Reads.meaning c) };
 }
