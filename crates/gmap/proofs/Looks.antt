@@ -1,7 +1,7 @@
 -- A look at the partner of a tuple in a switch up to the top is never refused.
 use Rattle.std.proofs.Common.{◌≡◌, ℕ, ◌<◌, ◌≤◌, true, is_ok, Ok, Err, Result, refl, ◌∙◌, inl, inr, arith}
-use Rattle.std.proofs.lemmas.Bool.{both_ways}
-use Rattle.gmap.specs.Map.{Map, Partners}
+use Rattle.std.proofs.lemmas.Bool.{both_ways, cases_lt}
+use Rattle.gmap.specs.Map.{Map, Partners, Free}
 use Rattle.gmap.specs.Outcome.{First, Outcome}
 use Rattle.gmap.specs.Acts.{partner_checks}
 use Rattle.gmap.specs.declared.refusal.Refusal.{Refusal}
@@ -23,3 +23,7 @@ look_is m i t u (Err f) e o = absurd (let z : ◌≡◌ {A = ℕ} 0 1 = cc in om
 -- a tuple's partner is a slot
 pub partner_inside : (m : Map) → Partners m → (i t : ℕ) → m.live t ≡ true → m.partner i t < m.size
 partner_inside m law i t live = law.inside (m.partner i t) (law.alive i t ∙ live)
+
+-- what is free in each switch up to the top is free in all
+pub free_in_all : {m : Map} {n t : ℕ} → Partners m → m.top < n → ((k : ℕ) → k < n → Free m k t) → (i : ℕ) → Free m i t
+free_in_all {m} {n} {t} law h free i = elim (cases_lt i n) [ inl l ↦ free i l | inr l ↦ law.high i t (omega (arith, h, l)) ]

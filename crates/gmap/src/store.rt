@@ -1,0 +1,98 @@
+// A storage by what it writes: the acts above it are the same for all.
+ghost use Rattle.std.specs.Prelude.{◌≡◌, ℕ, ◌<◌, MatchBool};
+ghost use Rattle.gmap.specs.Acts.{Couple, marked, tied, untied};
+ghost use Rattle.gmap.specs.Map.{Free, Same};
+
+use crate::map::{GMap, GMapMut, Reads};
+use crate::refusal::Refusal;
+
+// What a storage writes. It refuses nothing: whoever calls has looked first.
+pub trait Store: GMap {
+    // Makes slot t, which is linked in no switch, a tuple or vacant.
+    fn mark(&mut self, t: u16, live: bool)
+        requires slot { t < (Self.Reads.meaning self.old).size }
+        requires free { (i : ℕ) → Free (Self.Reads.meaning self.old) i t }
+        ensures { Same (Self.Reads.meaning self.new) (marked (Self.Reads.meaning self.old) t live) };
+
+    // Makes t and u, which are free in switch i, partners in it.
+    fn link(&mut self, i: u16, t: u16, u: u16)
+        requires two { Couple (Self.Reads.meaning self.old) i t u }
+        requires free { (Free (Self.Reads.meaning self.old) i t) × (Free (Self.Reads.meaning self.old) i u) }
+        ensures { Same (Self.Reads.meaning self.new) (tied (Self.Reads.meaning self.old) i t u) };
+
+    // Makes t and u, which are partners in switch i, free in it.
+    fn unlink(&mut self, i: u16, t: u16, u: u16)
+        requires two { Couple (Self.Reads.meaning self.old) i t u }
+        requires linked { (Self.Reads.meaning self.old).partner i t ≡ u }
+        ensures { Same (Self.Reads.meaning self.new) (untied (Self.Reads.meaning self.old) i t) };
+}
+
+// Whether t is linked in some switch.
+fn is_linked<C: GMap>(map: &C, t: u16) -> bool
+    ensures { MatchBool result ((i : ℕ) × (Free (C.Reads.meaning map.now) i t → ⊥)) ((i : ℕ) → Free (C.Reads.meaning map.now) i t) }
+{
+    for i in 0..map.top() + 1 {
+        if let Ok(u) = map.partner(i, t)
+            && u != t
+        {
+            return true;
+        }
+    }
+    false
+}
+
+impl<S: Store> GMapMut for S {
+    fn open_slot(&mut self, t: u16) -> Result<(), Refusal> {
+        if t >= self.size() {
+            return Err(Refusal::NoSlot);
+        }
+        if self.is_live(t) {
+            return Err(Refusal::Live);
+        }
+        self.mark(t, true);
+        Ok(())
+    }
+
+    fn close_slot(&mut self, t: u16) -> Result<(), Refusal> {
+        if t >= self.size() {
+            return Err(Refusal::NoSlot);
+        }
+        if !self.is_live(t) {
+            return Err(Refusal::Vacant);
+        }
+        if is_linked(self, t) {
+            return Err(Refusal::Linked);
+        }
+        self.mark(t, false);
+        Ok(())
+    }
+
+    fn tie(&mut self, i: u16, t: u16, u: u16) -> Result<(), Refusal> {
+        if i > self.top() {
+            return Err(Refusal::NoSwitch);
+        }
+        if t >= self.size() || u >= self.size() {
+            return Err(Refusal::NoSlot);
+        }
+        // What is left to refuse here is a vacant slot.
+        let of_t = self.partner(i, t)?;
+        let of_u = self.partner(i, u)?;
+        if t == u {
+            return Err(Refusal::SameTuple);
+        }
+        if of_t != t || of_u != u {
+            return Err(Refusal::Linked);
+        }
+        self.link(i, t, u);
+        Ok(())
+    }
+
+    fn untie(&mut self, i: u16, t: u16) -> Result<(), Refusal> {
+        let u = self.partner(i, t)?;
+        if u == t {
+            return Err(Refusal::NotLinked);
+        }
+        self.unlink(i, t, u);
+        Ok(())
+    }
+}
