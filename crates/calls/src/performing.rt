@@ -18,21 +18,14 @@ fn carry_out<B: GMapMut>(board: &mut B, call: Call, scratch: &mut [u16]) -> Resu
     ensures spared { length scratch.old < 4 * (B.Reads.meaning board.old).size → scratch.new ≡ scratch.old }
 {
     match call {
-        Call::Make(t) => {
-            make(board, t)?;
-            Ok(Answer::Done)
-        }
-        Call::Unmake(t) => {
-            unmake(board, t)?;
-            Ok(Answer::Done)
-        }
-        Call::Join(i, t, u) => Ok(Answer::Count(join(board, i, t, u, scratch)?)),
-        Call::Part(i, t) => Ok(Answer::Count(part(board, i, t, scratch)?)),
+        Call::Make(t) => make(board, t).map(|()| Answer::Done),
+        Call::Unmake(t) => unmake(board, t).map(|()| Answer::Done),
+        Call::Join(i, t, u) => join(board, i, t, u, scratch).map(Answer::Count),
+        Call::Part(i, t) => part(board, i, t, scratch).map(Answer::Count),
         Call::Split(t, f) => {
-            let (first, added) = split(board, t, f, scratch)?;
-            Ok(Answer::Added(first, added))
+            split(board, t, f, scratch).map(|(first, added)| Answer::Added(first, added))
         }
-        Call::Remove(i, t) => Ok(Answer::Count(remove(board, i, t, scratch)?)),
+        Call::Remove(i, t) => remove(board, i, t, scratch).map(Answer::Count),
     }
 }
 

@@ -8,8 +8,10 @@ use crate::performing::perform;
 use gmap::map::GMapMut;
 use protection::call::Call;
 
-// Performs the calls of a list one after the other. A board with no tuples is then as the protection says.
-fn run<B: GMapMut>(board: &mut B, calls: &[Call], scratch: &mut [u16])
+// Carries out the calls one after the other, each with the same scratch, and passes over those that are refused.
+// A board with no tuples is then as the protection says.
+#[tactic(auto, using(crate::proofs::Runs::run_more, gmap::proofs::Same::same_refl))]
+pub fn replay<B: GMapMut>(board: &mut B, calls: &[Call], scratch: &mut [u16])
     ensures run { Run (each (length scratch.old) calls.now) (B.Reads.meaning board.old) (B.Reads.meaning board.new) }
     ensures protection { Protection (B.Reads.meaning board.old).size (B.Reads.meaning board.old).top }
     ensures protected { Fresh (B.Reads.meaning board.old) → Protected (B.Reads.meaning board.new) }
@@ -17,13 +19,4 @@ fn run<B: GMapMut>(board: &mut B, calls: &[Call], scratch: &mut [u16])
     for call in calls {
         let _ = perform(board, *call, scratch);
     }
-}
-
-// Carries out the calls one after the other, each with the same scratch, and passes over those that are refused.
-pub fn replay<B: GMapMut>(board: &mut B, calls: &[Call], scratch: &mut [u16])
-    ensures run { Run (each (length scratch.old) calls.now) (B.Reads.meaning board.old) (B.Reads.meaning board.new) }
-    ensures protection { Protection (B.Reads.meaning board.old).size (B.Reads.meaning board.old).top }
-    ensures protected { Fresh (B.Reads.meaning board.old) → Protected (B.Reads.meaning board.new) }
-{
-    run(board, calls, scratch);
 }
