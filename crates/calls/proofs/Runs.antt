@@ -1,9 +1,11 @@
 -- A list of calls, one call after another.
 use Rattle.std.proofs.Common.{◌≡◌, ℕ, ◌+◌, ◌<◌, ◌≤◌, List, [], ◌∷◌, ◌++◌, length, get_or, take, Ok, Err, Result, sym, refl, ap, ◌∙◌, subst}
 use Rattle.std.proofs.lemmas.List.{take_more, take_all}
-use Rattle.gmap.specs.Map.{Map}
+use Rattle.gmap.specs.Map.{Map, Partners, Fresh}
 use Rattle.gmap.specs.declared.refusal.Refusal.{Refusal}
 use Rattle.gmap.proofs.Same.{same_refl, same_path}
+use Rattle.protection.specs.Protection.{Protected}
+use Rattle.protection.proofs.Protection.{protection}
 use Rattle.protection.specs.Runs.{Answered, Does, Run, each, Performed}
 use Rattle.protection.specs.declared.call.Answer.{Answer}
 use Rattle.protection.specs.declared.call.Call.{Call}
@@ -33,3 +35,7 @@ run_more scratch scratch' cs n d m k m' r long low run performed =
 -- all of them
 pub run_all : (scratch : ℕ) (cs : List Call) (n : ℕ) (m m' : Map) → length cs ≤ n → Run (each scratch (take n cs)) m m' → Run (each scratch cs) m m'
 run_all scratch cs n m m' h run = subst (λ x. Run (each scratch x) m m') (take_all n cs h) run
+
+-- a board with no tuples is then protected
+pub run_protected : (scratch : ℕ) (cs : List Call) (n : ℕ) (m m' : Map) → Run (each scratch (take n cs)) m m' → Partners m → Fresh m → Protected m'
+run_protected scratch cs n m m' run law fresh = ((protection m.size m.top).kept m m' (each scratch (take n cs)) law refl refl fresh run).0

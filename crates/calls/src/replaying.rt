@@ -10,7 +10,7 @@ use protection::call::Call;
 
 // Carries out the calls one after the other, each with the same scratch, and passes over those that are refused.
 // A board with no tuples is then as the protection says.
-#[tactic(auto, using(crate::proofs::Runs::run_more, gmap::proofs::Same::same_refl))]
+#[tactic(auto, using(crate::proofs::Runs::run_more, crate::proofs::Runs::run_all, gmap::proofs::Same::same_refl, protection::proofs::Protection::protection))]
 pub fn replay<B: GMapMut>(board: &mut B, calls: &[Call], scratch: &mut [u16])
     ensures run { Run (each (length scratch.old) calls.now) (B.Reads.meaning board.old) (B.Reads.meaning board.new) }
     ensures protection { Protection (B.Reads.meaning board.old).size (B.Reads.meaning board.old).top }
