@@ -3,5 +3,5 @@ mod Places
 mod Keeps
 mod Pairs
 mod Slots
-mod Writes
+mod Exchange
 mod Vacant

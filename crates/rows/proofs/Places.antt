@@ -14,7 +14,7 @@ pub in_room : (rows size n i t : ℕ) → rows * size ≤ n → i < rows → t <
 in_room rows size n i t room h g = omega (arith, mul-add-lt i size t rows h g, mul_comm size rows, room)
 
 -- different numbers have different places
-one_place : (size i t j x : ℕ) → t < size → x < size → j * size + x ≡ i * size + t → (j ≡ i) × (x ≡ t)
+pub one_place : (size i t j x : ℕ) → t < size → x < size → j * size + x ≡ i * size + t → (j ≡ i) × (x ≡ t)
 one_place size i t j x h g e = (
   sym (div-mul-add j size x g) ∙ (ap (λ n. n / size) e ∙ div-mul-add i size t h),
   sym (mod-mul-add j size x g) ∙ (ap (λ n. n % size) e ∙ mod-mul-add i size t h),

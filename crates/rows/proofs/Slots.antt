@@ -2,7 +2,7 @@
 use Rattle.std.proofs.Common.{◌≡◌, ℕ, ◌+◌, ◌<◌, ◌≤◌, Bool, true, false, cond, ◌&&◌, eqb, leb, ◌⊎◌, List, sym, refl, ◌∙◌, inl, inr, zero-le, arith}
 use Rattle.std.proofs.lemmas.Bool.{cases_eq, cases_lt, lt-ltb, lt-leb, eq-eqb, ne_eqb, and_right, cond_both}
 use Rattle.gmap.specs.Map.{Same, Free}
-use Rattle.rows.specs.Changes.{marked}
+use Rattle.gmap.specs.Acts.{marked}
 use Rattle.rows.specs.Numbers.{number_at, holds, rows_map, Sound, Filled}
 use Rattle.rows.proofs.Keeps.{not_vacant, holds_same, partner_same, keeps}
 

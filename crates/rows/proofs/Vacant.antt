@@ -7,26 +7,22 @@ use Rattle.gmap.specs.Map.{Fresh}
 use Rattle.rows.specs.Numbers.{holds, rows_map, Sound}
 use Rattle.rows.proofs.Places.{in_room}
 
-module _ (top size : ℕ) (memory : List ℕ) (fits : TooLarge (length memory) (rows_need top size) top size → ⊥) where
-  abbrev need : ℕ
-  need = rows_need top size
-
+module _ {top size : ℕ} (memory : List ℕ) {front : List ℕ} {n : ℕ} (fits : TooLarge (length memory) (rows_need top size) top size → ⊥) (all : n ≡ rows_need top size) (filled : front ≡ replicate (length (take n memory)) 65535) where
   abbrev xs : List ℕ
-  xs = replicate need 65535 ++ drop need memory
+  xs = front ++ drop n memory
 
-  room : need ≤ length memory
-  room = let h : length memory < need → ⊥ = λ l. fits (inr (inr l)) in omega arith
+  room : n ≤ length memory
+  room = let h : length memory < rows_need top size → ⊥ = λ l. fits (inr (inr l)) in omega (arith, all)
 
-  -- what a fill of the first numbers leaves
-  pub vacated : {front : List ℕ} → front ≡ replicate (length (take need memory)) 65535 → front ++ drop need memory ≡ xs
-  vacated filled = ap (λ l. l ++ drop need memory) (filled ∙ ap (λ n. replicate n 65535) (length-take-le need memory room))
+  is : xs ≡ replicate n 65535 ++ drop n memory
+  is = ap (λ l. l ++ drop n memory) (filled ∙ ap (λ k. replicate k 65535) (length-take-le n memory room))
 
   none : (i t : ℕ) → i ≤ top → holds xs size i t ≡ false
   none i t h =
       elim (cases_lt t size) [
         | inl l ↦
-            let k : i * size + t < need = in_room (top + 1) size need i t (omega arith) (omega (arith, h)) l in
-            let e : get_or xs (i * size + t) 0 ≡ 65535 = search (rules, places) in
+            let k : i * size + t < n = in_room (top + 1) size n i t (omega (arith, all)) (omega (arith, h)) l in
+            let e : get_or xs (i * size + t) 0 ≡ 65535 = rw is (search (rules, places)) in
             rw e (and_right (ltb t size) false refl)
         | inr l ↦ rw (le-ltb t size l) refl
       ]
@@ -40,7 +36,7 @@ module _ (top size : ℕ) (memory : List ℕ) (fits : TooLarge (length memory) (
       record {
         low = let h : 7 < top → ⊥ = λ l. fits (inl l) in omega arith;
         few = let h : 4096 < size → ⊥ = λ l. fits (inr (inl l)) in omega arith;
-        room = let h = room in search (rules, places);
+        room = let h = room in rw (is, ← all) (search (rules, places));
         back = λ i t. cc (self i t);
         alike = λ i t h. none i t h ∙ sym (none 0 t zero-le);
       }

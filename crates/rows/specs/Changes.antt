@@ -1,14 +1,16 @@
--- What the writers below the acts are given, and what they leave.
---   Couple  a switch, and two different tuples
---   marked  the map with a slot made live or vacant
-use Rattle.std.specs.Prelude.{◌≡◌, ℕ, ◌≤◌, Bool, true, cond, ◌==◌}
-use Rattle.gmap.specs.Map.{Map}
+-- What an exchange is given, and what it leaves.
+--   FreeOrPartners  two different tuples that are free in a switch, or partners in it
+--   Exchanged       they have each other's partners, and nothing else is changed
+use Rattle.std.specs.Prelude.{◌≡◌, ℕ, ◌⊎◌, ◌≢◌}
+use Rattle.gmap.specs.Map.{Map, Free, DiffersIn}
+use Rattle.gmap.specs.Acts.{Couple}
 
-pub record Couple (m : Map) (i t u : ℕ) : Type 0 where
-  pub switch : i ≤ m.top
-  pub one : m.live t ≡ true
-  pub two : m.live u ≡ true
-  pub apart : t ≡ u → ⊥
+pub record FreeOrPartners (m : Map) (i t u : ℕ) : Type 0 where
+  pub two : Couple m i t u
+  pub how : (Free m i t × Free m i u) ⊎ ((m.partner i t ≡ u) × (m.partner i u ≡ t))
 
-abbrev pub marked : Map → ℕ → Bool → Map
-marked m t b = record { size = m.size; top = m.top; live = λ u. cond (u == t) b (m.live u); partner = m.partner }
+pub record Exchanged (m : Map) (i t u : ℕ) (m' : Map) : Type 0 where
+  pub frame : DiffersIn i m m'
+  pub one : m'.partner i t ≡ m.partner i u
+  pub two : m'.partner i u ≡ m.partner i t
+  pub rest : (x : ℕ) → (x ≢ t) → (x ≢ u) → m'.partner i x ≡ m.partner i x

@@ -1,10 +1,9 @@
 -- Rows hold a map that keeps the law of partners.
-use Rattle.std.specs.Prelude.{◌≡◌, ℕ, ◌<◌, false, List, nat_le, nat_lt, refl}
-use Rattle.std.proofs.Common.{sym, ap, ◌∙◌, inl, inr, arith}
-use Rattle.std.proofs.lemmas.Bool.{cases_Bool, cases_lt, and_parts, and_right, lt-leb, ltb-true}
-use Rattle.gmap.specs.Map.{Map, Partners, Free}
+use Rattle.std.specs.Prelude.{◌≡◌, ℕ, false, List, nat_le, nat_lt, refl}
+use Rattle.std.proofs.Common.{sym, ap, ◌∙◌, inl, inr}
+use Rattle.std.proofs.lemmas.Bool.{cases_Bool, and_parts, and_right, lt-leb, ltb-true}
+use Rattle.gmap.specs.Map.{Map, Partners}
 use Rattle.rows.specs.Numbers.{rows_map, Sound}
-use Rattle.rows.specs.declared.rows.Rows.{Rows}
 
 module _ {top size : ℕ} {xs : List ℕ} (sound : Sound top size xs) where
   abbrev m : Map
@@ -31,11 +30,3 @@ module _ {top size : ℕ} {xs : List ℕ} (sound : Sound top size xs) where
     still = still;
     high = λ i t h. rw (lt-leb i top h) refl;
   }
-
--- what is free in each switch up to the top is free in all
-pub free_in_all : {m : Map} {n t : ℕ} → Partners m → m.top < n → ((k : ℕ) → k < n → Free m k t) → (i : ℕ) → Free m i t
-free_in_all {m} {n} {t} law h free i = elim (cases_lt i n) [ inl l ↦ free i l | inr l ↦ law.high i t (omega (arith, h, l)) ]
-
--- what a storage's ghost fields say
-pub sound_of : (r : Rows) → Sound r.top r.size r.numbers.list.now
-sound_of r = record { low = r.low; few = r.few; room = r.room; back = r.back; alike = r.alike }

@@ -5,4 +5,4 @@ use Rattle.rows.specs.Numbers.{rows_map}
 use Rattle.rows.specs.declared.rows.Rows.{Rows}
 
 abbrev pub map_of : Rows → Map
-map_of r = rows_map r.top r.size r.numbers.list.now
+map_of r = rows_map r.top r.size r.numbers.now

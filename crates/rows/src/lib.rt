@@ -1,7 +1,7 @@
 // A generalized map in rows of numbers, in memory that the caller lends.
 #![tactic(auto)]
 
-pub mod acts;
 pub mod lay;
 pub mod reads;
 pub mod rows;
+pub mod store;

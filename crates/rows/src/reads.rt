@@ -1,6 +1,6 @@
 // What rows answer. A look at a partner takes one load.
 ghost use Rattle.rows.specs.Meaning.{map_of};
-ghost use Rattle.rows.specs.Law.{rows_partners, sound_of};
+ghost use Rattle.rows.specs.Law.{rows_partners};
 
 use crate::rows::{Rows, VACANT};
 use gmap::map::{GMap, Reads};
@@ -19,7 +19,7 @@ impl<'a> Reads for Rows<'a> {
 
     // Row 0 stands for all: a slot is vacant in every row or in none.
     fn is_live(&self, t: u16) -> bool {
-        t < self.size && self.numbers.list[t as usize] != VACANT
+        t < self.size && self.numbers[t as usize] != VACANT
     }
 
     fn partner(&self, i: u16, t: u16) -> Result<u16, Refusal> {
@@ -29,8 +29,7 @@ impl<'a> Reads for Rows<'a> {
         if t >= self.size {
             return Err(Refusal::NoSlot);
         }
-        let place = i as usize * self.size as usize + t as usize;
-        let number = self.numbers.list[place];
+        let number = self.numbers[self.place(i, t)];
         if number == VACANT {
             return Err(Refusal::Vacant);
         }
@@ -39,5 +38,5 @@ impl<'a> Reads for Rows<'a> {
 }
 
 impl<'a> GMap for Rows<'a> {
-    ghost partners = { λ c. rows_partners (sound_of c) };
+    ghost partners = { λ c. rows_partners c.sound };
 }

@@ -1,7 +1,6 @@
 // The storage: what it consists of, and what holds of its numbers at all times.
-ghost use Rattle.std.specs.Prelude.{◌≤◌, length};
-ghost use Rattle.gmap.specs.Laying.{rows_need};
-ghost use Rattle.rows.specs.Numbers.{Back, Alike};
+ghost use Rattle.std.specs.Prelude.{◌≡◌, ◌+◌, ◌*◌, ◌<◌, ◌≤◌, length};
+ghost use Rattle.rows.specs.Numbers.{Sound};
 
 // The number in every row of a vacant slot.
 pub(crate) const VACANT: u16 = 65535;
@@ -9,19 +8,20 @@ pub(crate) const VACANT: u16 = 65535;
 // A map with a row of numbers for each switch: number t of row i is the partner of t in switch i.
 #[derive(Drop)]
 pub struct Rows<'a> {
-    pub(crate) numbers: Numbers<'a>,
+    pub(crate) numbers: &'a mut [u16],
     pub(crate) top: u16,
     pub(crate) size: u16,
-    ghost low: { top ≤ 7 },
-    ghost few: { size ≤ 4096 },
-    ghost room: { rows_need top size ≤ length numbers.list.now },
-    ghost back: { Back top size numbers.list.now },
-    ghost alike: { Alike top size numbers.list.now },
+    ghost sound: { Sound top size numbers.now },
 }
 
-// The rows, one after another. They stand in a struct of their own: what holds of Rows is owed after
-// every loan of a field, so writes that belong together go through one loan.
-#[derive(Drop)]
-pub(crate) struct Numbers<'a> {
-    pub(crate) list: &'a mut [u16],
+impl Rows<'_> {
+    // Where number t of row i stands.
+    pub(crate) fn place(&self, i: u16, t: u16) -> usize
+        requires switch { i ≤ self.now.top }
+        requires slot { t < self.now.size }
+        ensures value { result ≡ i * self.now.size + t }
+        ensures inside { result < length self.now.numbers.now }
+    {
+        i as usize * self.size as usize + t as usize
+    }
 }

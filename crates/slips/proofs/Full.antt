@@ -1,10 +1,11 @@
 -- A block has an unused record while two tuples have no link in it.
-use Rattle.std.proofs.Common.{◌≡◌, ℕ, ◌+◌, ◌*◌, ◌/◌, ◌%◌, ◌<◌, ◌≤◌, true, false, cond, not, eqb, ltb, ◌⊎◌, List, sym, refl, ap, ◌∙◌, subst, inl, inr, arith}
-use Rattle.std.proofs.lemmas.Bool.{cases_eq, cases_lt, both_ways, eq-eqb, ne_eqb, lt-ltb, le-ltb, not-false}
+use Rattle.std.proofs.Common.{◌≡◌, ℕ, ◌+◌, ◌*◌, ◌/◌, ◌%◌, ◌<◌, ◌≤◌, true, false, cond, eqb, ltb, ◌⊎◌, List, sym, refl, ap, ◌∙◌, subst, inl, inr, arith}
+use Rattle.std.proofs.lemmas.Bool.{cases_eq, cases_lt, both_ways, eq-eqb, ne_eqb, lt-ltb, le-ltb}
+use Rattle.gmap.specs.Acts.{Couple}
+use Rattle.gmap.specs.Map.{Free}
 use Rattle.gmap.proofs.Pigeon.{pigeon}
 use Rattle.slips.specs.Links.{says_something, names, other}
 use Rattle.slips.specs.Blocks.{link_at, slips_map, Named, Sound}
-use Rattle.slips.specs.Changes.{Ready}
 use Rattle.slips.specs.declared.record.Record.{Record}
 use Rattle.slips.specs.Ends.{lower, names_lower, names_other}
 use Rattle.slips.specs.Law.{inside, free_unnamed}
@@ -87,18 +88,18 @@ module _ (size h t u : ℕ) (b : ℕ → Record) (c : Crowded size h t u b) wher
   not_crowded = let p = pigeon size (2 * h + 2) slots slots_below slots_apart in omega (arith, p, c.halved)
 
 -- so a link between two more tuples finds room
-pub room_left : {top size : ℕ} {rs : List Record} {i t u : ℕ} → Sound top size rs → Ready (slips_map top size rs) i t u → ((k : ℕ) → k < size / 2 → not (says_something (link_at rs size i k)) ≡ false) → ⊥
-room_left {top} {size} {rs} {i} {t} {u} sound ready full =
-    let named : (k x : ℕ) → k < size / 2 → names x (link_at rs size i k) ≡ true → Named top size rs i k x = λ k x h e. record { switch = ready.switch; within = h; named = e } in
+pub room_left : {top size : ℕ} {rs : List Record} {i t u : ℕ} → Sound top size rs → Couple (slips_map top size rs) i t u → Free (slips_map top size rs) i t × Free (slips_map top size rs) i u → ((k : ℕ) → k < size / 2 → says_something (link_at rs size i k) ≡ true) → ⊥
+room_left {top} {size} {rs} {i} {t} {u} sound two free full =
+    let named : (k x : ℕ) → k < size / 2 → names x (link_at rs size i k) ≡ true → Named top size rs i k x = λ k x h e. record { switch = two.switch; within = h; named = e } in
     not_crowded size (size / 2) t u (link_at rs size i) (record {
       halved = omega arith;
       inside = λ k x h e. inside sound x (sound.alive (i, k, x) (named k x h e));
       apart = λ k x h e. sound.apart (i, k, x) (named k x h e);
       single = λ k l x h g e f. sound.single (i, k, l) (record { end = x; one = named k x h e; two = named l x g f });
-      t_below = inside sound t ready.live_one;
-      u_below = inside sound u ready.live_two;
-      differ = ready.apart;
-      t_free = free_unnamed sound i t ready.switch ready.free_one;
-      u_free = free_unnamed sound i u ready.switch ready.free_two;
-      full = λ k h. names_lower (link_at rs size i k) (not-false (says_something (link_at rs size i k)) (full k h)) (no_slot top size _ (link_at rs size i k) (omega arith) (sound.tidy _));
+      t_below = inside sound t two.one;
+      u_below = inside sound u two.two;
+      differ = two.apart;
+      t_free = free_unnamed sound i t two.switch free.0;
+      u_free = free_unnamed sound i u two.switch free.1;
+      full = λ k h. names_lower (link_at rs size i k) (full k h) (no_slot top size _ (link_at rs size i k) (omega arith) (sound.tidy _));
     })

@@ -2,7 +2,7 @@
 use Rattle.std.proofs.Common.{◌≡◌, ℕ, ◌/◌, ◌<◌, Bool, true, false, cond, eqb, ◌⊎◌, List, length, set, sym, refl, ap, ◌∙◌, subst, inl, inr, arith}
 use Rattle.std.proofs.lemmas.List.{length-set}
 use Rattle.std.proofs.lemmas.Bool.{ne_eqb, lt-ltb}
-use Rattle.gmap.specs.Acts.{opened, closed}
+use Rattle.gmap.specs.Acts.{marked}
 use Rattle.gmap.specs.Map.{Same, Free}
 use Rattle.slips.specs.Links.{says_slot, names, other}
 use Rattle.slips.specs.Blocks.{link_at, living, slips_map, belongs, Named, Sound}
@@ -54,9 +54,5 @@ module _ {top size : ℕ} {rs : List Record} {t : ℕ} {live : Bool} {r : Record
   same_partner : (j x : ℕ) → (slips_map top size (set rs t r)).partner j x ≡ (slips_map top size rs).partner j x
   same_partner j x = rw (opposite_same (link_at (set rs t r) size j) (link_at rs size j) x (size / 2) (λ l g. still j l)) refl
 
-  pub slot_same : Same (slips_map top size (set rs t r)) (cond live (opened (slips_map top size rs) t) (closed (slips_map top size rs) t))
-  slot_same =
-      elim marks [
-        | inl p ↦ rw p.0 (record { size = refl; top = refl; live = λ x. new_live x ∙ rw p.0 refl; partner = same_partner })
-        | inr p ↦ rw p.0 (record { size = refl; top = refl; live = λ x. new_live x ∙ rw p.0 refl; partner = same_partner })
-      ]
+  pub slot_same : Same (slips_map top size (set rs t r)) (marked (slips_map top size rs) t live)
+  slot_same = record { size = refl; top = refl; live = new_live; partner = same_partner }

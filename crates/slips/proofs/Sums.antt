@@ -1,5 +1,6 @@
 -- Sums in parts, and sums that count.
-use Rattle.std.proofs.Common.{◌≡◌, ℕ, zero, suc, ◌+◌, ◌*◌, ◌<◌, Bool, true, false, cond, ◌⊎◌, sym, refl, ap, ◌∙◌, subst, inl, inr, add-zero, add_assoc, add-suc, suc-mul, zero-mul, add-one, arith}
+use Rattle.std.proofs.Common.{◌≡◌, ℕ, zero, suc, ◌+◌, ◌*◌, ◌<◌, Bool, true, false, cond, ◌⊎◌, List, [], ◌∷◌, length, get_or, sym, refl, ap, ◌∙◌, subst, inl, inr, add-zero, add_assoc, add-suc, suc-mul, zero-mul, arith}
+use Rattle.std.specs.List.{filter}
 use Rattle.std.proofs.lemmas.Bool.{cases_Bool, cases_eq, both_ways, cond-true, cond-false}
 use Rattle.gmap.specs.Listing.{Counts}
 use Rattle.gmap.proofs.Counting.{counts_none, counts_like, counts_more}
@@ -8,6 +9,10 @@ use Rattle.slips.specs.Uses.{up_to}
 pub sum_none : (f : ℕ → ℕ) (n : ℕ) → ((k : ℕ) → f k ≡ 0) → up_to f n ≡ 0
 sum_none f zero h = refl
 sum_none f (suc n) h = rw (h n, sum_none f n h) refl
+
+sum_first : (f : ℕ → ℕ) (n : ℕ) → up_to f (suc n) ≡ f 0 + up_to (λ k. f (suc k)) n
+sum_first f zero = omega arith
+sum_first f (suc n) = let before = sum_first f n in omega (arith, before)
 
 pub sum_parts : (f : ℕ → ℕ) (a b : ℕ) → up_to f (a + b) ≡ up_to f a + up_to (λ k. f (a + k)) b
 sum_parts f a zero = rw (add-zero a) (sym (add-zero (up_to f a)))
@@ -35,12 +40,13 @@ count_one test n y = ap (λ c. passing test n + c) (cond-true (test n) 1 0 y)
 pub count_none : (test : ℕ → Bool) (n : ℕ) → test n ≡ false → passing test (suc n) ≡ passing test n
 count_none test n z = ap (λ c. passing test n + c) (cond-false (test n) 1 0 z) ∙ add-zero (passing test n)
 
--- one more place, as a loop goes on
-pub count_passed : (test : ℕ → Bool) (n c d : ℕ) → c ≡ passing test n → test n ≡ true → d ≡ c + 1 → d ≡ passing test (n + 1)
-count_passed test n c d e y q = rw (q, e, add-one n) (sym (count_one test n y))
-
-pub count_failed : (test : ℕ → Bool) (n c d : ℕ) → c ≡ passing test n → test n ≡ false → d ≡ c → d ≡ passing test (n + 1)
-count_failed test n c d e z q = rw (q, e, add-one n) (sym (count_none test n z))
+-- a filter keeps as many elements as pass
+pub filter_sum : {A : Type 0} (test : A → Bool) (d : A) (xs : List A) → length (filter test xs) ≡ passing (λ k. test (get_or xs k d)) (length xs)
+filter_sum test d [] = refl
+filter_sum test d (x ∷ xs) =
+    let sum = sum_first (λ k. cond (test (get_or (x ∷ xs) k d)) 1 0) (length xs) in
+    let rest = filter_sum test d xs in
+    elim (cases_Bool (test x)) [ inl y ↦ rw (sum, y) (omega (arith, rest)) | inr z ↦ rw (sum, z) (omega (arith, rest)) ]
 
 module _ (test : ℕ → Bool) (number : ℕ → ℕ) where
   placed_more : (n x : ℕ) → Placed test number n x → Placed test number (suc n) x

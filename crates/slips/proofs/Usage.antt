@@ -1,5 +1,6 @@
 -- The used records are those of the tuples and of the links, each once.
 use Rattle.std.proofs.Common.{◌≡◌, ℕ, ◌+◌, ◌-◌, ◌*◌, ◌/◌, ◌<◌, ◌≤◌, true, cond, ltb, List, length, get_or, sym, refl, ap, ◌∙◌, subst, inl, inr, add-zero, add_assoc, arith}
+use Rattle.std.specs.List.{filter}
 use Rattle.std.proofs.lemmas.Bool.{and_from, and_parts, lt-ltb, cond-false}
 use Rattle.gmap.specs.Laying.{slips_need}
 use Rattle.gmap.specs.Listing.{Counts}
@@ -7,13 +8,13 @@ use Rattle.gmap.specs.Map.{Map}
 use Rattle.gmap.proofs.Counting.{counts_like}
 use Rattle.slips.specs.Links.{says_something, says_slot, other}
 use Rattle.slips.specs.Blocks.{link_at, slips_map, Named, Sound}
-use Rattle.slips.specs.Uses.{up_to, used_in, Uses}
+use Rattle.slips.specs.Uses.{up_to, Uses}
 use Rattle.slips.specs.declared.record.Record.{Record}
 use Rattle.slips.specs.declared.record.Record.TheVariants.{Unused}
 use Rattle.slips.specs.Ends.{lower, names_lower, names_used, lower_below, lower_is}
 use Rattle.slips.specs.Law.{inside, named_partner, free_or_named}
 use Rattle.slips.proofs.Places.{no_slot, used_slot, unused_behind}
-use Rattle.slips.proofs.Sums.{Placed, sum_none, sum_parts, sum_blocks, sum_counts}
+use Rattle.slips.proofs.Sums.{Placed, sum_none, sum_parts, sum_blocks, sum_counts, filter_sum}
 
 whole : (a n : ℕ) → a ≤ n → n ≡ a + (n - a)
 whole a n h = omega arith
@@ -83,17 +84,17 @@ module _ {top size : ℕ} {rs : List Record} (sound : Sound top size rs) where
       sum_none (λ k. mark (slips_need top size + k)) n
       (λ k. cond-false (says_something (get_or rs (slips_need top size + k) Unused)) 1 0 (unused_behind top size (slips_need top size + k) (get_or rs (slips_need top size + k) Unused) (omega arith) (sound.tidy (slips_need top size + k))))
 
-  parts : used_in rs (length rs) ≡ up_to mark size + up_to (λ i. up_to (λ k. mark (size + i * (size / 2) + k)) (size / 2)) (top + 1)
+  parts : up_to mark (length rs) ≡ up_to mark size + up_to (λ i. up_to (λ k. mark (size + i * (size / 2) + k)) (size / 2)) (top + 1)
   parts =
       ap (up_to mark) (whole (slips_need top size) (length rs) sound.room)
       ∙ (sum_parts mark (slips_need top size) (length rs - slips_need top size)
       ∙ (ap (λ n. up_to mark (slips_need top size) + n) (nothing_behind (length rs - slips_need top size)) ∙ (add-zero (up_to mark (slips_need top size)) ∙ slots_and_blocks)))
 
-  pub slips_use : Uses m (used_in rs (length rs))
-  slips_use = record {
+  pub slips_use : (n : ℕ) → n ≡ length (filter says_something rs) → Uses m n
+  slips_use n is = record {
     tuples = up_to mark size;
     links = λ i. up_to (λ k. mark (size + i * (size / 2) + k)) (size / 2);
     live = tuples_counted;
     linked = links_counted;
-    all = parts;
+    all = is ∙ (filter_sum says_something Unused rs ∙ parts);
   }

@@ -2,12 +2,11 @@
 use Rattle.std.proofs.Common.{◌≡◌, ℕ, ◌+◌, ◌*◌, ◌/◌, ◌<◌, ◌≤◌, true, false, ◌⊎◌, List, length, set, sym, refl, ap, ◌∙◌, inl, inr, arith}
 use Rattle.std.proofs.lemmas.List.{get_or-set_same, length-set}
 use Rattle.std.proofs.lemmas.Bool.{cases_Bool, cases_eq, both_ways, eq-eqb, ne_eqb, and_from, le-leb, lt-ltb}
-use Rattle.gmap.specs.Acts.{tied, untied}
+use Rattle.gmap.specs.Acts.{Couple, tied, untied}
 use Rattle.gmap.specs.Laying.{slips_need}
-use Rattle.gmap.specs.Map.{Map, Same}
+use Rattle.gmap.specs.Map.{Map, Same, Free}
 use Rattle.slips.specs.Links.{says_something, says_slot, names, other}
 use Rattle.slips.specs.Blocks.{link_at, living, slips_map, belongs, Named, Single, Sound}
-use Rattle.slips.specs.Changes.{Ready}
 use Rattle.slips.specs.declared.record.Record.{Record}
 use Rattle.slips.specs.declared.record.Record.TheVariants.{Unused, Slot, Link}
 use Rattle.slips.specs.Ends.{ends, names_one, names_two, names_other, other_one, other_two, not_end, either_end, unused_names, opposite_same, search_block}
@@ -29,14 +28,14 @@ admits_unused = record {
   alone = λ l x g n h. absurd (both_ways false refl h);
 }
 
-pub admits_link : {top size : ℕ} {rs : List Record} {i k t u : ℕ} → Sound top size rs → Ready (slips_map top size rs) i t u → Admits size rs i k (Link t u)
-admits_link {size = size} {rs = rs} {i = i} {t = t} {u = u} sound ready = record {
+pub admits_link : {top size : ℕ} {rs : List Record} {i k t u : ℕ} → Sound top size rs → Couple (slips_map top size rs) i t u → Free (slips_map top size rs) i t × Free (slips_map top size rs) i u → Admits size rs i k (Link t u)
+admits_link {size = size} {rs = rs} {i = i} {t = t} {u = u} sound two free = record {
   kind = refl;
-  tuples = λ x n. elim (ends x t u n) [ inl e ↦ rw e ready.live_one | inr e ↦ rw e.0 ready.live_two ];
-  differ = λ x n q. elim (ends x t u n) [ inl e ↦ ready.apart (cc (other_one t u)) | inr e ↦ ready.apart (cc (other_two t u)) ];
+  tuples = λ x n. elim (ends x t u n) [ inl e ↦ rw e two.one | inr e ↦ rw e.0 two.two ];
+  differ = λ x n q. elim (ends x t u n) [ inl e ↦ two.apart (cc (other_one t u)) | inr e ↦ two.apart (cc (other_two t u)) ];
   alone = λ l x b n m. elim (ends x t u m) [
-    | inl e ↦ rw e (free_unnamed sound i t ready.switch ready.free_one l b)
-    | inr e ↦ rw e.0 (free_unnamed sound i u ready.switch ready.free_two l b)
+    | inl e ↦ rw e (free_unnamed sound i t two.switch free.0 l b)
+    | inr e ↦ rw e.0 (free_unnamed sound i u two.switch free.1 l b)
   ];
 }
 

@@ -1,13 +1,12 @@
 -- Slips hold a map that keeps the law of partners.
 use Rattle.std.specs.Prelude.{◌≡◌, ℕ, ◌+◌, ◌*◌, ◌/◌, ◌<◌, ◌≤◌, true, false, ◌⊎◌, List, nat_lt, slice_index_or, refl}
-use Rattle.std.proofs.Common.{sym, ap, ◌∙◌, inl, inr, arith}
+use Rattle.std.proofs.Common.{sym, ap, ◌∙◌, inl, inr}
 use Rattle.std.proofs.lemmas.Bool.{cases_lt, cases_Bool, both_ways, le-leb, lt-leb, ltb-true, and_parts}
 use Rattle.gmap.specs.Map.{Map, Partners, Free}
 use Rattle.slips.specs.Links.{names, other}
 use Rattle.slips.specs.Blocks.{link_at, living, slips_map, Named, Sound}
 use Rattle.slips.specs.declared.record.Record.{Record}
 use Rattle.slips.specs.declared.record.Record.TheVariants.{Unused}
-use Rattle.slips.specs.declared.slips.Slips.{Slips}
 use Rattle.slips.specs.Ends.{names_other, other_other, opposite_none, opposite_at, search_block}
 
 module _ {top size : ℕ} {rs : List Record} (sound : Sound top size rs) where
@@ -73,11 +72,3 @@ module _ {top size : ℕ} {rs : List Record} (sound : Sound top size rs) where
     still = λ i x e. elim (free_or_named i x) [ inl h ↦ h | inr p ↦ absurd (both_ways (m.live x) e (sound.alive (i, p.0, x) p.1)) ];
     high = high;
   }
-
--- what is free in each switch up to the top is free in all
-pub free_in_all : {m : Map} {n t : ℕ} → Partners m → m.top < n → ((k : ℕ) → k < n → Free m k t) → (i : ℕ) → Free m i t
-free_in_all {m} {n} {t} law h free i = elim (cases_lt i n) [ inl l ↦ free i l | inr l ↦ law.high i t (omega (arith, h, l)) ]
-
--- what a storage's ghost fields say
-pub sound_of : (s : Slips) → Sound s.top s.size s.records.now
-sound_of s = record { low = s.low; few = s.few; room = s.room; tidy = s.tidy; alive = s.alive; apart = s.apart; single = s.single }

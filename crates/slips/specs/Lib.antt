@@ -2,7 +2,6 @@
 pub mod Links
 pub mod Blocks
 pub mod Meaning
-pub mod Changes
 pub mod Uses
 pub mod Law
 pub mod Ends

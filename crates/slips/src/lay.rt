@@ -1,5 +1,6 @@
 // What fits into memory that is lent, and the empty storage in it.
-ghost use Rattle.std.specs.Prelude.{◌≡◌, [], ◌∷◌, length, replicate};
+// Rows and slips each have these: one for both would need a trait with a type of places and a lifetime, for two short bodies.
+ghost use Rattle.std.specs.Prelude.{◌≡◌, [], ◌∷◌, length};
 ghost use Rattle.gmap.specs.Laying.{slips_need, TooLarge, Laid};
 ghost use Rattle.gmap.specs.Map.{Fresh};
 ghost use Rattle.gmap.specs.Outcome.{Outcome};
@@ -7,16 +8,15 @@ ghost use Rattle.slips.specs.Meaning.{map_of};
 
 use crate::record::Record;
 use crate::slips::Slips;
+use gmap::laying::fits;
 use gmap::refusal::Refusal;
 
 // Refuses a top or a size that is out of range, and memory of too few records.
 pub fn check(memory: usize, top: u16, size: u16) -> Result<(), Refusal>
     ensures { Outcome ((TooLarge memory (slips_need top size) top size, 13) ∷ []) (λ _. Unit {0}) (Unit {0}) result }
 {
-    if top > 7 || size > 4096 || memory < size as usize + (top as usize + 1) * (size / 2) as usize {
-        return Err(Refusal::Oversize);
-    }
-    Ok(())
+    let need = size as usize + (top as usize + 1) * (size / 2) as usize;
+    fits(memory, need, top, size)
 }
 
 // Slips in the memory, every slot vacant. What the check refuses gives top 0 and no slots.
@@ -36,17 +36,10 @@ fn empty<'a>(memory: &'a mut [Record], top: u16, size: u16) -> Slips<'a>
     ensures top { result.top ≡ top }
     ensures size { result.size ≡ size }
 {
-    clear(memory);
+    memory.fill(Record::Unused);
     Slips {
         records: memory,
         top,
         size,
     }
-}
-
-// Leaves every record unused.
-fn clear(memory: &mut [Record])
-    ensures { memory.new ≡ replicate (length memory.old) Record.Unused }
-{
-    memory.fill(Record::Unused);
 }

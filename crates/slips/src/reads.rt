@@ -1,8 +1,9 @@
 // What slips answer. A look at a partner goes through the records of its switch.
 ghost use Rattle.slips.specs.Meaning.{map_of};
 ghost use Rattle.slips.specs.Uses.{Uses};
-ghost use Rattle.slips.specs.Law.{slips_partners, sound_of};
+ghost use Rattle.slips.specs.Law.{slips_partners};
 
+use crate::record::Record;
 use crate::slips::Slips;
 use gmap::map::{GMap, Reads};
 use gmap::refusal::Refusal;
@@ -19,7 +20,7 @@ impl<'a> Reads for Slips<'a> {
     }
 
     fn is_live(&self, t: u16) -> bool {
-        t < self.size && self.records[t as usize].is_slot()
+        t < self.size && matches!(self.records[t as usize], Record::Slot)
     }
 
     fn partner(&self, i: u16, t: u16) -> Result<u16, Refusal> {
@@ -37,7 +38,7 @@ impl<'a> Reads for Slips<'a> {
 }
 
 impl<'a> GMap for Slips<'a> {
-    ghost partners = { λ c. slips_partners (sound_of c) };
+    ghost partners = { λ c. slips_partners c.sound };
 }
 
 impl Slips<'_> {
@@ -45,12 +46,6 @@ impl Slips<'_> {
     pub fn used(&self) -> usize
         ensures { Uses (map_of self.now) result }
     {
-        let mut count = 0;
-        for p in 0..self.records.len() {
-            if self.records[p].is_used() {
-                count += 1;
-            }
-        }
-        count
+        self.records.iter().filter(|r| r.is_used()).count()
     }
 }

@@ -1,9 +1,9 @@
 // One record, and what it says.
 ghost use Rattle.std.specs.Prelude.{◌≡◌};
-ghost use Rattle.slips.specs.Links.{says_something, says_slot, names, other};
+ghost use Rattle.slips.specs.Links.{says_something, names, other};
 
 // A record tells by its place of which slot or of which switch it speaks.
-#[derive(Clone, Copy)]
+#[derive(Clone, Copy, PartialEq, Eq, Debug)]
 pub enum Record {
     // It says nothing.
     Unused,
@@ -18,33 +18,14 @@ impl Record {
     pub(crate) fn is_used(self) -> bool
         ensures { result ≡ says_something self }
     {
-        match self {
-            Record::Unused => false,
-            Record::Slot => true,
-            Record::Link(_, _) => true,
-        }
-    }
-
-    // Whether the record says that a slot is live.
-    pub(crate) fn is_slot(self) -> bool
-        ensures { result ≡ says_slot self }
-    {
-        match self {
-            Record::Unused => false,
-            Record::Slot => true,
-            Record::Link(_, _) => false,
-        }
+        self != Record::Unused
     }
 
     // Whether the record is a link of t.
     pub(crate) fn names(self, t: u16) -> bool
         ensures { result ≡ names t self }
     {
-        match self {
-            Record::Unused => false,
-            Record::Slot => false,
-            Record::Link(a, b) => t == a || t == b,
-        }
+        matches!(self, Record::Link(a, b) if t == a || t == b)
     }
 
     // The other end of a link of t.
@@ -52,9 +33,9 @@ impl Record {
         ensures { result ≡ other t self }
     {
         match self {
-            Record::Unused => t,
-            Record::Slot => t,
-            Record::Link(a, b) => if t == a { b } else { a },
+            Record::Link(a, b) if t == a => b,
+            Record::Link(a, _) => a,
+            _ => t,
         }
     }
 }
