@@ -4,20 +4,19 @@ use Rattle.std.proofs.lemmas.Bool.{cases_lt}
 use Rattle.gmap.specs.Map.{Map, Partners}
 use Rattle.gmap.specs.Orbits.{Orbit, here, step}
 use Rattle.gmap.specs.Listing.{Among}
-use Rattle.questions.specs.Search.{Kept, Added, Spread, Collected, Gathered}
+use Rattle.questions.specs.Search.{Kept, Added, Spread, Collected}
 use Rattle.questions.proofs.Sets.{kept_apart}
 
 pub among_more : (xs xs' : List ℕ) (n n' x : ℕ) → n ≤ n' → ((k : ℕ) → k < n → get_or xs' k 0 ≡ get_or xs k 0) → Among xs n x → Among xs' n' x
 among_more xs xs' n n' x le same (k, h, e) = (k, omega arith, same k h ∙ e)
 
-pub spread_none : (m : Map) (via : ℕ → Type 0) (u : ℕ) (xs ps : List ℕ) (n : ℕ) → Kept xs ps n → Spread m via u 0 xs n xs ps n
-spread_none m via u xs ps n s = record { kept = s; long = refl; grows = omega arith; same = λ k h. refl; there = λ i h on. absurd (omega arith); new = λ k p q. absurd (omega arith) }
+pub spread_none : (m : Map) (via : ℕ → Type 0) (u : ℕ) (xs : List ℕ) (n : ℕ) → Spread m via u 0 xs n xs n
+spread_none m via u xs n = record { long = refl; grows = omega arith; same = λ k h. refl; there = λ i h on. absurd (omega arith); new = λ k p q. absurd (omega arith) }
 
-module _ (m : Map) (via : ℕ → Type 0) (u j : ℕ) (xs : List ℕ) (n : ℕ) (xs' ps' : List ℕ) (n' : ℕ) (s : Spread m via u j xs n xs' ps' n') where
-  pub spread_skip : (via j → ⊥) → Spread m via u (j + 1) xs n xs' ps' n'
+module _ (m : Map) (via : ℕ → Type 0) (u j : ℕ) (xs : List ℕ) (n : ℕ) (xs' : List ℕ) (n' : ℕ) (s : Spread m via u j xs n xs' n') where
+  pub spread_skip : (via j → ⊥) → Spread m via u (j + 1) xs n xs' n'
   spread_skip off =
       record {
-        kept = s.kept;
         long = s.long;
         grows = s.grows;
         same = s.same;
@@ -25,10 +24,9 @@ module _ (m : Map) (via : ℕ → Type 0) (u j : ℕ) (xs : List ℕ) (n : ℕ) 
         new = s.new;
       }
 
-  pub spread_more : via j → (xs'' ps'' : List ℕ) (n'' : ℕ) → Added (m.partner j u) xs' n' xs'' ps'' n'' → Spread m via u (j + 1) xs n xs'' ps'' n''
-  spread_more on xs'' ps'' n'' a =
+  pub spread_more : via j → (xs'' : List ℕ) (n'' : ℕ) → Added (m.partner j u) xs' n' xs'' n'' → Spread m via u (j + 1) xs n xs'' n''
+  spread_more on xs'' n'' a =
       record {
-        kept = a.kept;
         long = a.long ∙ s.long;
         grows = omega (arith, s.grows, a.grows);
         same = λ k h. a.same k (omega (arith, s.grows)) ∙ s.same k h;
@@ -37,8 +35,7 @@ module _ (m : Map) (via : ℕ → Type 0) (u j : ℕ) (xs : List ℕ) (n : ℕ) 
       }
 
 -- the first `done` of those found have been looked at
-pub record Progress (m : Map) (via : ℕ → Type 0) (t : ℕ) (xs xs' ps' : List ℕ) (n done : ℕ) : Type 0 where
-  pub kept : Kept xs' ps' n
+pub record Progress (m : Map) (via : ℕ → Type 0) (t : ℕ) (xs xs' : List ℕ) (n done : ℕ) : Type 0 where
   pub long : length xs' ≡ length xs
   pub so_far : done ≤ n
   pub some : 0 < n
@@ -47,24 +44,22 @@ pub record Progress (m : Map) (via : ℕ → Type 0) (t : ℕ) (xs xs' ps' : Lis
   pub from : (k : ℕ) → 0 < k → k < n → (p i : ℕ) × (p < k) × via i × (get_or xs' k 0 ≡ m.partner i (get_or xs' p 0))
   pub closed : (k : ℕ) → k < done → (i : ℕ) → i < m.top + 1 → via i → Among xs' n (m.partner i (get_or xs' k 0))
 
-pub progress_none : (m : Map) (via : ℕ → Type 0) (t : ℕ) (xs xs' ps' : List ℕ) (n : ℕ) → Added t xs 0 xs' ps' n → Progress m via t xs' xs' ps' n 0
-progress_none m via t xs xs' ps' n a =
+pub progress_none : (m : Map) (via : ℕ → Type 0) (t : ℕ) (xs xs' ps' : List ℕ) (n : ℕ) → Kept xs' ps' n → Added t xs 0 xs' n → Progress m via t xs xs' n 0
+progress_none m via t xs xs' ps' n kept a =
     let some : 0 < n = omega (arith, a.there.1) in
     record {
-      kept = a.kept;
-      long = refl;
+      long = a.long;
       so_far = omega arith;
       some = some;
       first = a.new 0 (omega arith) some;
       only = λ k h. subst (Orbit m via t) (sym (a.new k (omega arith) h)) here;
-      from = λ k p h. absurd (kept_apart xs' ps' n a.kept 0 k p h (a.new 0 (omega arith) some ∙ sym (a.new k (omega arith) h)));
+      from = λ k p h. absurd (kept_apart xs' ps' n kept 0 k p h (a.new 0 (omega arith) some ∙ sym (a.new k (omega arith) h)));
       closed = λ k h. absurd (omega arith);
     }
 
-pub progress_more : (m : Map) (via : ℕ → Type 0) (t : ℕ) (xs xs' ps' : List ℕ) (n done : ℕ) (xs'' ps'' : List ℕ) (n'' : ℕ) → Progress m via t xs xs' ps' n done → done < n → Spread m via (get_or xs' done 0) (m.top + 1) xs' n xs'' ps'' n'' → Progress m via t xs xs'' ps'' n'' (done + 1)
-progress_more m via t xs xs' ps' n done xs'' ps'' n'' p lt s =
+pub progress_more : (m : Map) (via : ℕ → Type 0) (t : ℕ) (xs xs' : List ℕ) (n done : ℕ) (xs'' : List ℕ) (n'' : ℕ) → Progress m via t xs xs' n done → done < n → Spread m via (get_or xs' done 0) (m.top + 1) xs' n xs'' n'' → Progress m via t xs xs'' n'' (done + 1)
+progress_more m via t xs xs' n done xs'' n'' p lt s =
     record {
-      kept = s.kept;
       long = s.long ∙ p.long;
       so_far = omega (arith, s.grows);
       some = omega (arith, s.grows, p.some);
@@ -82,7 +77,7 @@ progress_more m via t xs xs' ps' n done xs'' ps'' n'' p lt s =
           (λ i li on. subst (λ v. Among xs'' n'' (m.partner i v)) (sym (s.same done lt)) (s.there i li on));
     }
 
-module _ (m : Map) (law : Partners m) (via : ℕ → Type 0) (t : ℕ) (xs xs' ps' : List ℕ) (n done : ℕ) (p : Progress m via t xs xs' ps' n done) (end : n ≤ done) where
+module _ (m : Map) (law : Partners m) (via : ℕ → Type 0) (t : ℕ) (xs xs' ps' : List ℕ) (n done : ℕ) (p : Progress m via t xs xs' n done) (kept : Kept xs' ps' n) (end : n ≤ done) where
   -- a switch above the top leads nowhere
   onward : (i u : ℕ) → via i → Among xs' n u → Among xs' n (m.partner i u)
   onward i u on (k, h, e) =
@@ -95,13 +90,8 @@ module _ (m : Map) (law : Partners m) (via : ℕ → Type 0) (t : ℕ) (xs xs' p
   all here = (0, p.some, p.first)
   all (step {u} i on o) = onward i u on (all o)
 
-  pub gathered : (ys : List ℕ) → length xs ≡ length ys → Gathered m via t ys xs' ps' n
-  gathered ys long =
-      record {
-        kept = p.kept;
-        long = p.long ∙ long;
-        orbit = record { some = p.some; fits = p.kept.few; first = p.first; apart = kept_apart xs' ps' n p.kept; only = p.only; all = λ x o. all o; from = p.from };
-      }
+  pub collected : Collected m via t n xs'
+  collected = record { some = p.some; fits = kept.few; first = p.first; apart = kept_apart xs' ps' n kept; only = p.only; all = λ x o. all o; from = p.from }
 
 pub collected_only : (m : Map) (via : ℕ → Type 0) (t n : ℕ) (xs : List ℕ) → Collected m via t n xs → (x : ℕ) → Among xs n x → Orbit m via t x
 collected_only m via t n xs o x (k, h, e) = subst (Orbit m via t) e (o.only k h)

@@ -3,5 +3,6 @@ pub mod Masks
 pub mod Sets
 pub mod Finding
 pub mod Rising
+pub mod Ranking
 pub mod Marks
 pub mod Labels

@@ -30,16 +30,19 @@ module _ (xs ps : List ℕ) (n : ℕ) (s : Kept xs ps n) where
         (λ k h. ap (λ y. get_or (set ps x n) y 0) (below k h) ∙ get_or-set_other ps x (get_or xs k 0) n 0 (λ e. free (k, h, e)) ∙ s.back k h)
         (ap (λ y. get_or (set ps x n) y 0) here ∙ get_or-set_same ps x n 0 (omega (arith, s.deep)))
 
-    pub added : Added x xs n (set xs n x) (set ps x n) (n + 1)
+    pub kept_more : Kept (set xs n x) (set ps x n) (n + 1)
+    kept_more =
+        record {
+          small = omega (arith, s.small, length-set xs n x);
+          few = omega (arith, kept_room, length-set xs n x);
+          deep = omega (arith, s.deep, length-set xs n x, length-set ps x n);
+          low = low;
+          back = back;
+        }
+
+    pub added : Added x xs n (set xs n x) (n + 1)
     added =
         record {
-          kept = record {
-            small = omega (arith, s.small, length-set xs n x);
-            few = omega (arith, kept_room, length-set xs n x);
-            deep = omega (arith, s.deep, length-set xs n x, length-set ps x n);
-            low = low;
-            back = back;
-          };
           long = length-set xs n x;
           grows = omega arith;
           same = below;

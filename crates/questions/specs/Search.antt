@@ -3,7 +3,6 @@
 --   Added      one slot more, unless it was found already
 --   Spread     the partners of one tuple more
 --   Collected  a whole orbit stands in front of a list, in the order in which it was found
---   Gathered   the same, with the places
 use Rattle.std.specs.Prelude.{◌≡◌, ℕ, ◌^◌, ◌<◌, ◌≤◌, List, length, ◌≢◌, slice_index, slice_index_or}
 use Rattle.gmap.specs.Map.{Map}
 use Rattle.gmap.specs.Orbits.{Orbit}
@@ -18,8 +17,7 @@ pub record Kept (xs ps : List ℕ) (n : ℕ) : Type 0 where
   pub back : (k : ℕ) → k < n → slice_index ps (slice_index xs k) ≡ k
 
 -- xs with n slots is now xs' with n' slots: x came last, unless it was there
-pub record Added (x : ℕ) (xs : List ℕ) (n : ℕ) (xs' ps' : List ℕ) (n' : ℕ) : Type 0 where
-  pub kept : Kept xs' ps' n'
+pub record Added (x : ℕ) (xs : List ℕ) (n : ℕ) (xs' : List ℕ) (n' : ℕ) : Type 0 where
   pub long : length xs' ≡ length xs
   pub grows : n ≤ n'
   pub same : (k : ℕ) → k < n → slice_index xs' k ≡ slice_index xs k
@@ -27,8 +25,7 @@ pub record Added (x : ℕ) (xs : List ℕ) (n : ℕ) (xs' ps' : List ℕ) (n' : 
   pub new : (k : ℕ) → n ≤ k → k < n' → slice_index xs' k ≡ x
 
 -- the same of the partners of u in those switches of a set that are below j
-pub record Spread (m : Map) (via : ℕ → Type 0) (u j : ℕ) (xs : List ℕ) (n : ℕ) (xs' ps' : List ℕ) (n' : ℕ) : Type 0 where
-  pub kept : Kept xs' ps' n'
+pub record Spread (m : Map) (via : ℕ → Type 0) (u j : ℕ) (xs : List ℕ) (n : ℕ) (xs' : List ℕ) (n' : ℕ) : Type 0 where
   pub long : length xs' ≡ length xs
   pub grows : n ≤ n'
   pub same : (k : ℕ) → k < n → slice_index xs' k ≡ slice_index xs k
@@ -44,8 +41,3 @@ pub record Collected (m : Map) (via : ℕ → Type 0) (t n : ℕ) (xs : List ℕ
   pub only : (k : ℕ) → k < n → Orbit m via t (slice_index xs k)
   pub all : (x : ℕ) → Orbit m via t x → Among xs n x
   pub from : (k : ℕ) → 0 < k → k < n → (p i : ℕ) × (p < k) × via i × (slice_index xs k ≡ m.partner i (slice_index xs p))
-
-pub record Gathered (m : Map) (via : ℕ → Type 0) (t : ℕ) (xs xs' ps' : List ℕ) (n' : ℕ) : Type 0 where
-  pub kept : Kept xs' ps' n'
-  pub long : length xs' ≡ length xs
-  pub orbit : Collected m via t n' xs'

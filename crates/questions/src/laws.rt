@@ -4,41 +4,47 @@ ghost use Rattle.gmap.specs.Map.{Lawful};
 ghost use Rattle.questions.specs.Laws.{Commute, LawfulAt};
 
 use gmap::map::GMap;
+use gmap::tuple::Tuple;
 
 // Whether switches i and j lead from t to the same tuple in either order.
-// A step of lawful and of a removal, which know the tuple and the switches.
+// A step of a removal, which knows the tuple and the switches.
 pub fn commute<C: GMap>(map: &C, i: u16, j: u16, t: u16) -> bool
     requires first { i ≤ (C.Reads.meaning map.now).top }
     requires second { j ≤ (C.Reads.meaning map.now).top }
     requires live { (C.Reads.meaning map.now).live t ≡ true }
     ensures { MatchBool result (Commute (C.Reads.meaning map.now) i j t) (Commute (C.Reads.meaning map.now) i j t → ⊥) }
 {
-    let along_j = map.partner(j, t).unwrap();
-    let along_i = map.partner(i, t).unwrap();
-    map.partner(i, along_j).unwrap() == map.partner(j, along_i).unwrap()
+    commute_at(&Tuple { map, slot: t }, i, j)
 }
 
-// Whether switch i commutes at t with those that are two or more above it.
-fn commutes_above<C: GMap>(map: &C, i: u16, t: u16) -> bool
-    requires switch { i ≤ (C.Reads.meaning map.now).top }
-    requires live { (C.Reads.meaning map.now).live t ≡ true }
-    ensures { MatchBool result ((j : ℕ) → i + 2 ≤ j → Commute (C.Reads.meaning map.now) i j t) ((j : ℕ) × (i + 2 ≤ j) × (Commute (C.Reads.meaning map.now) i j t → ⊥)) }
+// Whether they do so from a tuple at hand.
+fn commute_at<C: GMap>(tuple: &Tuple<C>, i: u16, j: u16) -> bool
+    requires first { i ≤ (C.Reads.meaning tuple.now.map.now).top }
+    requires second { j ≤ (C.Reads.meaning tuple.now.map.now).top }
+    ensures { MatchBool result (Commute (C.Reads.meaning tuple.now.map.now) i j tuple.now.slot) (Commute (C.Reads.meaning tuple.now.map.now) i j tuple.now.slot → ⊥) }
 {
-    for j in i + 2..map.top() + 1 {
-        if !commute(map, i, j, t) {
+    tuple.partner(j).partner(i).slot == tuple.partner(i).partner(j).slot
+}
+
+// Whether switch i commutes at a tuple with those that are two or more above it.
+fn commutes_above<C: GMap>(tuple: &Tuple<C>, i: u16) -> bool
+    requires { i ≤ (C.Reads.meaning tuple.now.map.now).top }
+    ensures { MatchBool result ((j : ℕ) → i + 2 ≤ j → Commute (C.Reads.meaning tuple.now.map.now) i j tuple.now.slot) ((j : ℕ) × (i + 2 ≤ j) × (Commute (C.Reads.meaning tuple.now.map.now) i j tuple.now.slot → ⊥)) }
+{
+    for j in i + 2..tuple.map.top() + 1 {
+        if !commute_at(tuple, i, j) {
             return false;
         }
     }
     true
 }
 
-// Whether all far switches commute at t.
-fn lawful_at<C: GMap>(map: &C, t: u16) -> bool
-    requires live { (C.Reads.meaning map.now).live t ≡ true }
-    ensures { MatchBool result (LawfulAt (C.Reads.meaning map.now) t) (LawfulAt (C.Reads.meaning map.now) t → ⊥) }
+// Whether all far switches commute at a tuple.
+fn lawful_at<C: GMap>(tuple: &Tuple<C>) -> bool
+    ensures { MatchBool result (LawfulAt (C.Reads.meaning tuple.now.map.now) tuple.now.slot) (LawfulAt (C.Reads.meaning tuple.now.map.now) tuple.now.slot → ⊥) }
 {
-    for i in 0..map.top() + 1 {
-        if !commutes_above(map, i, t) {
+    for i in 0..tuple.map.top() + 1 {
+        if !commutes_above(tuple, i) {
             return false;
         }
     }
@@ -50,7 +56,7 @@ pub fn lawful<C: GMap>(map: &C) -> bool
     ensures { MatchBool result (Lawful (C.Reads.meaning map.now)) (Lawful (C.Reads.meaning map.now) → ⊥) }
 {
     for t in 0..map.size() {
-        if map.is_live(t) && !lawful_at(map, t) {
+        if map.is_live(t) && !lawful_at(&Tuple { map, slot: t }) {
             return false;
         }
     }

@@ -1,9 +1,9 @@
 // The one search of an orbit, for every map and every set of switches.
-ghost use Rattle.std.specs.Prelude.{◌≡◌, ◌+◌, ◌<◌, ◌≤◌, true, length, MatchBool};
+ghost use Rattle.std.specs.Prelude.{◌≡◌, ◌+◌, ◌^◌, ◌<◌, ◌≤◌, length, take, MatchBool};
 ghost use Rattle.gmap.specs.Asking.{Short};
 ghost use Rattle.gmap.specs.Listing.{Among, Listed};
 ghost use Rattle.gmap.specs.Orbits.{Orbit};
-ghost use Rattle.questions.specs.Search.{Kept, Added, Spread, Collected, Gathered};
+ghost use Rattle.questions.specs.Search.{Kept, Added, Spread, Collected};
 ghost use Rattle.questions.specs.Via.{via};
 
 pub mod cell;
@@ -13,6 +13,7 @@ pub mod orbit;
 
 use crate::switches::Switches;
 use gmap::map::GMap;
+use gmap::tuple::Tuple;
 
 // Whether the scratch or the list is too short for a map.
 fn too_short<C: GMap>(map: &C, scratch: usize, out: usize) -> bool
@@ -24,18 +25,40 @@ fn too_short<C: GMap>(map: &C, scratch: usize, out: usize) -> bool
 
 // The slots found so far: in front of the list in the order in which they came, and in places the place of each.
 // A slot is found if its place is below the count and the list has it there, so the memory is not cleared first.
+// Each of the two has a lifetime of its own: with one for both, a caller would not know what the list holds in the end.
 #[derive(Drop)]
-struct Found<'a> {
-    list: &'a mut [u16],
-    places: &'a mut [u16],
+struct Found<'l, 'p> {
+    list: &'l mut [u16],
+    places: &'p mut [u16],
     count: u16,
+    ghost kept: { Kept list.now places.now count },
 }
 
-impl Found<'_> {
+impl<'l, 'p> Found<'l, 'p> {
+    // None yet, in memory with a place for each slot of the list.
+    fn new(list: &'l mut [u16], places: &'p mut [u16]) -> Self
+        requires small { length list.old < 2 ^ 16 }
+        requires deep { length list.old ≤ length places.old }
+        ensures list { result.list.now ≡ list.old }
+        ensures same_list { result.list.ghost_name ≡ list.entry.ghost_name }
+    {
+        Found {
+            list,
+            places,
+            count: 0,
+        }
+    }
+
+    // Those found, in the order in which they came.
+    fn slots(&self) -> &[u16]
+        ensures { result.now ≡ take self.now.count self.now.list.now }
+    {
+        &self.list[..self.count as usize]
+    }
+
     // Whether slot x is found.
     fn has(&self, x: u16) -> bool
-        requires kept { Kept self.now.list.now self.now.places.now self.now.count }
-        requires slot { x < length self.now.list.now }
+        requires { x < length self.now.list.now }
         ensures { MatchBool result (Among self.now.list.now self.now.count x) (Among self.now.list.now self.now.count x → ⊥) }
     {
         let place = self.places[x as usize];
@@ -44,9 +67,8 @@ impl Found<'_> {
 
     // Adds slot x, unless it is found already.
     fn add(&mut self, x: u16)
-        requires kept { Kept self.old.list.now self.old.places.now self.old.count }
-        requires slot { x < length self.old.list.now }
-        ensures set { Added x self.old.list.now self.old.count self.new.list.now self.new.places.now self.new.count }
+        requires { x < length self.old.list.now }
+        ensures set { Added x self.old.list.now self.old.count self.new.list.now self.new.count }
         ensures same_list { self.new.list.ghost_name ≡ self.old.list.ghost_name }
     {
         if self.has(x) {
@@ -57,98 +79,65 @@ impl Found<'_> {
         self.count += 1;
     }
 
-    // Adds the partners of u in the switches.
-    fn expand<C: GMap>(&mut self, map: &C, switches: Switches, u: u16)
-        requires kept { Kept self.old.list.now self.old.places.now self.old.count }
-        requires size { length self.old.list.now ≡ (C.Reads.meaning map.now).size }
-        requires live { (C.Reads.meaning map.now).live u ≡ true }
-        ensures set { Spread (C.Reads.meaning map.now) (via switches) u ((C.Reads.meaning map.now).top + 1) self.old.list.now self.old.count self.new.list.now self.new.places.now self.new.count }
+    // Adds the partners of a tuple in the switches.
+    fn expand<C: GMap>(&mut self, tuple: &Tuple<C>, switches: Switches)
+        requires { length self.old.list.now ≡ (C.Reads.meaning tuple.now.map.now).size }
+        ensures set { Spread (C.Reads.meaning tuple.now.map.now) (via switches) tuple.now.slot ((C.Reads.meaning tuple.now.map.now).top + 1) self.old.list.now self.old.count self.new.list.now self.new.count }
         ensures same_list { self.new.list.ghost_name ≡ self.old.list.ghost_name }
     {
-        for j in 0..map.top() + 1 {
+        for j in 0..tuple.map.top() + 1 {
             if switches.has(j) {
-                self.add(map.partner(j, u).unwrap());
+                self.add(tuple.partner(j).slot);
             }
         }
     }
 
-    // Finds the orbit of t under the switches, and nothing else.
-    fn gather<C: GMap>(&mut self, map: &C, switches: Switches, t: u16)
-        requires size { length self.old.list.now ≡ (C.Reads.meaning map.now).size }
-        requires deep { length self.old.list.now ≤ length self.old.places.now }
-        requires live { (C.Reads.meaning map.now).live t ≡ true }
-        ensures set { Gathered (C.Reads.meaning map.now) (via switches) t self.old.list.now self.new.list.now self.new.places.now self.new.count }
+    // Finds the orbit of a tuple under the switches, and nothing else.
+    fn gather<C: GMap>(&mut self, tuple: &Tuple<C>, switches: Switches)
+        requires { length self.old.list.now ≡ (C.Reads.meaning tuple.now.map.now).size }
+        ensures long { length self.new.list.now ≡ length self.old.list.now }
+        ensures orbit { Collected (C.Reads.meaning tuple.now.map.now) (via switches) tuple.now.slot self.new.count self.new.list.now }
         ensures same_list { self.new.list.ghost_name ≡ self.old.list.ghost_name }
     {
         self.count = 0;
-        self.add(t);
+        self.add(tuple.slot);
         let mut done = 0;
+        // by index, since the list grows while it is walked
         while done < self.count {
-            let u = self.list[done as usize];
-            self.expand(map, switches, u);
+            let slot = self.list[done as usize];
+            self.expand(&Tuple { map: tuple.map, slot }, switches);
             done += 1;
         }
     }
-}
 
-// Collects the orbit of t under the switches in front of the list, and answers how many tuples it has.
-fn collect<C: GMap>(
-    map: &C,
-    switches: Switches,
-    t: u16,
-    list: &mut [u16],
-    places: &mut [u16],
-) -> u16
-    requires live { (C.Reads.meaning map.now).live t ≡ true }
-    requires room { length list.old ≡ (C.Reads.meaning map.now).size }
-    requires places { length list.old ≤ length places.old }
-    ensures { Collected (C.Reads.meaning map.now) (via switches) t result list.new }
-{
-    let mut found = Found {
-        list,
-        places,
-        count: 0,
-    };
-    found.gather(map, switches, t);
-    found.count
-}
-
-// Writes the slots found upwards.
-fn rise(found: &Found, out: &mut [u16]) -> u16
-    requires kept { Kept found.now.list.now found.now.places.now found.now.count }
-    requires room { length found.now.list.now ≤ length out.old }
-    ensures { Listed (Among found.now.list.now found.now.count) result out.old out.new }
-{
-    let mut written: u16 = 0;
-    for x in 0..found.list.len() as u16 {
-        if found.has(x) {
-            out[written as usize] = x;
-            written += 1;
+    // Writes those found upwards, and answers how many they are.
+    fn rise(&self, out: &mut [u16]) -> u16
+        requires { length self.now.list.now ≤ length out.old }
+        ensures { Listed (Among self.now.list.now self.now.count) result out.old out.new }
+    {
+        let mut written: u16 = 0;
+        // Not every slot takes a place, so the places are counted: how many there are is the answer.
+        for x in 0..self.list.len() as u16 {
+            if self.has(x) {
+                out[written as usize] = x;
+                written += 1;
+            }
         }
+        written
     }
-    written
-}
 
-// Writes the orbit of t under the switches upwards, and answers how many tuples it has.
-fn list_upwards<C: GMap>(
-    map: &C,
-    switches: Switches,
-    t: u16,
-    list: &mut [u16],
-    places: &mut [u16],
-    out: &mut [u16],
-) -> u16
-    requires live { (C.Reads.meaning map.now).live t ≡ true }
-    requires list { length list.old ≡ (C.Reads.meaning map.now).size }
-    requires places { length list.old ≤ length places.old }
-    requires room { length list.old ≤ length out.old }
-    ensures { Listed (Orbit (C.Reads.meaning map.now) (via switches) t) result out.old out.new }
-{
-    let mut found = Found {
-        list,
-        places,
-        count: 0,
-    };
-    found.gather(map, switches, t);
-    rise(&found, out)
+    // Writes the orbit of a tuple under the switches upwards, and answers how many tuples it has.
+    fn list_upwards<C: GMap>(
+        &mut self,
+        tuple: &Tuple<C>,
+        switches: Switches,
+        out: &mut [u16],
+    ) -> u16
+        requires size { length self.old.list.now ≡ (C.Reads.meaning tuple.now.map.now).size }
+        requires room { length self.old.list.now ≤ length out.old }
+        ensures { Listed (Orbit (C.Reads.meaning tuple.now.map.now) (via switches) tuple.now.slot) result out.old out.new }
+    {
+        self.gather(tuple, switches);
+        self.rise(out)
+    }
 }

@@ -4,6 +4,7 @@ ghost use Rattle.questions.specs.Via.{via};
 
 use gmap::switches::far;
 
+// A value, and no closure: the contracts of the search say `via switches`, where they would have to say what a closure answers.
 #[derive(Clone, Copy, PartialEq, Eq, Debug)]
 pub enum Switches {
     // bit i of the mask stands for switch i

@@ -3,14 +3,14 @@ ghost use Rattle.std.specs.Prelude.{◌≡◌, ℕ, ◌<◌, true, MatchBool};
 ghost use Rattle.gmap.specs.Map.{Free, Whole};
 
 use gmap::map::GMap;
+use gmap::tuple::Tuple;
 
-// Whether t is linked in every switch below the top.
-fn linked_below<C: GMap>(map: &C, t: u16) -> bool
-    requires live { (C.Reads.meaning map.now).live t ≡ true }
-    ensures { MatchBool result ((i : ℕ) → i < (C.Reads.meaning map.now).top → Free (C.Reads.meaning map.now) i t → ⊥) ((i : ℕ) × (i < (C.Reads.meaning map.now).top) × Free (C.Reads.meaning map.now) i t) }
+// Whether a tuple is linked in every switch below the top.
+fn linked_below<C: GMap>(tuple: &Tuple<C>) -> bool
+    ensures { MatchBool result ((i : ℕ) → i < (C.Reads.meaning tuple.now.map.now).top → Free (C.Reads.meaning tuple.now.map.now) i tuple.now.slot → ⊥) ((i : ℕ) × (i < (C.Reads.meaning tuple.now.map.now).top) × Free (C.Reads.meaning tuple.now.map.now) i tuple.now.slot) }
 {
-    for i in 0..map.top() {
-        if map.partner(i, t).unwrap() == t {
+    for i in 0..tuple.map.top() {
+        if tuple.partner(i).slot == tuple.slot {
             return false;
         }
     }
@@ -22,7 +22,7 @@ pub fn whole<C: GMap>(map: &C) -> bool
     ensures { MatchBool result (Whole (C.Reads.meaning map.now)) (Whole (C.Reads.meaning map.now) → ⊥) }
 {
     for t in 0..map.size() {
-        if map.is_live(t) && !linked_below(map, t) {
+        if map.is_live(t) && !linked_below(&Tuple { map, slot: t }) {
             return false;
         }
     }

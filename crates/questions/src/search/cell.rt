@@ -6,41 +6,36 @@ ghost use Rattle.gmap.specs.Orbits.{Cell};
 ghost use Rattle.gmap.specs.Outcome.{Outcome};
 ghost use Rattle.questions.specs.Ranks.{Rankable};
 
-use super::list_upwards;
+use super::Found;
 use crate::switches::Switches;
 use gmap::map::GMap;
 use gmap::refusal::Refusal;
+use gmap::tuple::Tuple;
 
-// The refusals of a cell.
+// The refusals of a cell; else the tuple.
 fn admit<C: GMap>(
     map: &C,
     t: u16,
     members: usize,
     ranks: usize,
     spare: usize,
-) -> Result<(), Refusal>
-    ensures { Outcome (cell_checks (C.Reads.meaning map.now) members ranks spare t) (λ _. Unit {0}) (Unit {0}) result }
+) -> Result<Tuple<C>, Refusal>
+    ensures { Outcome (cell_checks (C.Reads.meaning map.now) members ranks spare t) (λ x. (x.map.now ≡ map.now) × (x.slot ≡ t)) (Unit {0}) result }
 {
     let size = map.size() as usize;
     if members < size || ranks < size || spare < size {
         return Err(Refusal::Short);
     }
-    if t >= map.size() {
-        return Err(Refusal::NoSlot);
-    }
-    if !map.is_live(t) {
-        return Err(Refusal::Vacant);
-    }
-    Ok(())
+    Tuple::at(map, t)
 }
 
-// Writes to ranks the place of each of the first numbers of a list that rises.
-fn rank(list: &[u16], count: u16, ranks: &mut [u16])
-    requires { Rankable list.now count ranks.old }
-    ensures { (k : ℕ) → k < count → slice_index ranks.new (slice_index list.now k) ≡ k }
+// Writes to ranks the place of each of some numbers that rise.
+fn rank(members: &[u16], ranks: &mut [u16])
+    requires { Rankable members.now ranks.old }
+    ensures { (k : ℕ) → k < length members.now → slice_index ranks.new (slice_index members.now k) ≡ k }
 {
-    for k in 0..count {
-        ranks[list[k as usize] as usize] = k;
+    for (k, x) in members.iter().enumerate() {
+        ranks[*x as usize] = k as u16;
     }
 }
 
@@ -56,9 +51,9 @@ pub fn cell<C: GMap>(
 ) -> Result<u16, Refusal>
     ensures { Outcome (cell_checks (C.Reads.meaning map.now) (length members.old) (length ranks.old) (length spare.old) t) (λ n. Ranked (Cell (C.Reads.meaning map.now) i t) n members.new ranks.new) (Unit {0}) result }
 {
-    admit(map, t, members.len(), ranks.len(), spare.len())?;
+    let tuple = admit(map, t, members.len(), ranks.len(), spare.len())?;
     let (list, _) = spare.split_at_mut(map.size() as usize);
-    let count = list_upwards(map, Switches::AllBut(i), t, list, ranks, members);
-    rank(members, count, ranks);
+    let count = Found::new(list, ranks).list_upwards(&tuple, Switches::AllBut(i), members);
+    rank(&members[..count as usize], ranks);
     Ok(count)
 }

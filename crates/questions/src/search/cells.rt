@@ -4,14 +4,14 @@ ghost use Rattle.gmap.specs.Asking.{cells_checks, Labelled};
 ghost use Rattle.gmap.specs.Listing.{Among};
 ghost use Rattle.gmap.specs.Outcome.{Outcome};
 ghost use Rattle.questions.specs.Marks.{Marked, Unlabelled};
-ghost use Rattle.questions.specs.Search.{Kept};
 
 use super::{Found, too_short};
 use crate::switches::Switches;
 use gmap::map::GMap;
 use gmap::refusal::Refusal;
+use gmap::tuple::Tuple;
 
-// What stands in a list of labels at a vacant slot.
+// What stands in a list of labels at a vacant slot: the form in which cells are listed is fixed.
 const VACANT: u16 = 65535;
 
 // The refusals of cells.
@@ -32,19 +32,16 @@ fn blank(size: u16, out: &mut [u16])
     requires { size ≤ length out.old }
     ensures { Marked (λ x. x < size) 65535 out.old out.new }
 {
-    for x in 0..size {
-        out[x as usize] = VACANT;
-    }
+    out[..size as usize].fill(VACANT);
 }
 
 // Writes the label at each slot found.
 fn label(found: &Found, label: u16, out: &mut [u16])
-    requires kept { Kept found.now.list.now found.now.places.now found.now.count }
-    requires room { length found.now.list.now ≤ length out.old }
+    requires { length found.now.list.now ≤ length out.old }
     ensures { Marked (Among found.now.list.now found.now.count) label out.old out.new }
 {
-    for k in 0..found.count {
-        out[found.list[k as usize] as usize] = label;
+    for x in found.slots() {
+        out[*x as usize] = label;
     }
 }
 
@@ -59,7 +56,6 @@ fn is_unlabelled<C: GMap>(map: &C, t: u16, out: &[u16]) -> bool
 // Labels the cells by their lowest tuples, and answers how many there are.
 fn label_all<C: GMap>(map: &C, i: u16, found: &mut Found, out: &mut [u16]) -> u16
     requires size { length found.old.list.now ≡ (C.Reads.meaning map.now).size }
-    requires deep { length found.old.list.now ≤ length found.old.places.now }
     requires room { (C.Reads.meaning map.now).size ≤ length out.old }
     ensures { Labelled (C.Reads.meaning map.now) i result out.old out.new }
 {
@@ -68,7 +64,7 @@ fn label_all<C: GMap>(map: &C, i: u16, found: &mut Found, out: &mut [u16]) -> u1
     let mut cells = 0;
     for t in 0..size {
         if is_unlabelled(map, t, out) {
-            found.gather(map, Switches::AllBut(i), t);
+            found.gather(&Tuple { map, slot: t }, Switches::AllBut(i));
             label(found, t, out);
             cells += 1;
         }
@@ -84,10 +80,6 @@ pub fn cells<C: GMap>(map: &C, i: u16, scratch: &mut [u16], out: &mut [u16]) -> 
 {
     admit(map, i, scratch.len(), out.len())?;
     let (list, places) = scratch.split_at_mut(map.size() as usize);
-    let mut found = Found {
-        list,
-        places,
-        count: 0,
-    };
+    let mut found = Found::new(list, places);
     Ok(label_all(map, i, &mut found, out))
 }

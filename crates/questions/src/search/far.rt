@@ -3,9 +3,10 @@ ghost use Rattle.std.specs.Prelude.{◌≡◌, ◌≤◌, true, length};
 ghost use Rattle.gmap.specs.Map.{Far};
 ghost use Rattle.questions.specs.Search.{Collected};
 
-use super::collect;
+use super::Found;
 use crate::switches::Switches;
 use gmap::map::GMap;
+use gmap::tuple::Tuple;
 
 // Collects the orbit of t under the switches far from i in front of the list, and answers how many tuples it has.
 // A step of join and part, which know the tuple and the switch. What the places hold afterwards is free, and so is the rest of the list.
@@ -16,5 +17,7 @@ pub fn far_orbit<C: GMap>(map: &C, i: u16, t: u16, list: &mut [u16], places: &mu
     requires places { length list.old ≤ length places.old }
     ensures { Collected (C.Reads.meaning map.now) (Far i) t result list.new }
 {
-    collect(map, Switches::FarFrom(i), t, list, places)
+    let mut found = Found::new(list, places);
+    found.gather(&Tuple { map, slot: t }, Switches::FarFrom(i));
+    found.count
 }

@@ -5,10 +5,11 @@ ghost use Rattle.gmap.specs.Listing.{Listed};
 ghost use Rattle.gmap.specs.Orbits.{Orbit};
 ghost use Rattle.gmap.specs.Outcome.{Outcome};
 
-use super::{list_upwards, too_short};
+use super::{Found, too_short};
 use crate::switches::Switches;
 use gmap::map::GMap;
 use gmap::refusal::Refusal;
+use gmap::tuple::Tuple;
 
 // Whether every switch of the mask is at most the top.
 fn within(mask: u8, top: u16) -> bool
@@ -22,9 +23,15 @@ fn within(mask: u8, top: u16) -> bool
     true
 }
 
-// The refusals of an orbit.
-fn admit<C: GMap>(map: &C, mask: u8, t: u16, scratch: usize, out: usize) -> Result<(), Refusal>
-    ensures { Outcome (orbit_checks (C.Reads.meaning map.now) scratch out mask t) (λ _. Unit {0}) (Unit {0}) result }
+// The refusals of an orbit; else the tuple.
+fn admit<C: GMap>(
+    map: &C,
+    mask: u8,
+    t: u16,
+    scratch: usize,
+    out: usize,
+) -> Result<Tuple<C>, Refusal>
+    ensures { Outcome (orbit_checks (C.Reads.meaning map.now) scratch out mask t) (λ x. (x.map.now ≡ map.now) × (x.slot ≡ t)) (Unit {0}) result }
 {
     if too_short(map, scratch, out) {
         return Err(Refusal::Short);
@@ -32,24 +39,22 @@ fn admit<C: GMap>(map: &C, mask: u8, t: u16, scratch: usize, out: usize) -> Resu
     if !within(mask, map.top()) {
         return Err(Refusal::NoSwitch);
     }
-    if t >= map.size() {
-        return Err(Refusal::NoSlot);
-    }
-    if !map.is_live(t) {
-        return Err(Refusal::Vacant);
-    }
-    Ok(())
+    Tuple::at(map, t)
 }
 
 // Writes an orbit upwards.
-fn write_orbit<C: GMap>(map: &C, mask: u8, t: u16, scratch: &mut [u16], out: &mut [u16]) -> u16
-    requires live { (C.Reads.meaning map.now).live t ≡ true }
-    requires scratch { 4 * (C.Reads.meaning map.now).size ≤ length scratch.old }
-    requires out { (C.Reads.meaning map.now).size ≤ length out.old }
-    ensures { Listed (Orbit (C.Reads.meaning map.now) (Bit mask) t) result out.old out.new }
+fn write_orbit<C: GMap>(
+    tuple: &Tuple<C>,
+    mask: u8,
+    scratch: &mut [u16],
+    out: &mut [u16],
+) -> u16
+    requires scratch { 4 * (C.Reads.meaning tuple.now.map.now).size ≤ length scratch.old }
+    requires out { (C.Reads.meaning tuple.now.map.now).size ≤ length out.old }
+    ensures { Listed (Orbit (C.Reads.meaning tuple.now.map.now) (Bit mask) tuple.now.slot) result out.old out.new }
 {
-    let (list, places) = scratch.split_at_mut(map.size() as usize);
-    list_upwards(map, Switches::Mask(mask), t, list, places, out)
+    let (list, places) = scratch.split_at_mut(tuple.map.size() as usize);
+    Found::new(list, places).list_upwards(tuple, Switches::Mask(mask), out)
 }
 
 // Writes the orbit of t under the switches of the mask upwards to the list, and answers how many tuples it has.
@@ -64,6 +69,6 @@ pub fn orbit<C: GMap>(
     ensures outcome { Outcome (orbit_checks (C.Reads.meaning map.now) (length scratch.old) (length out.old) mask t) (λ n. Listed (Orbit (C.Reads.meaning map.now) (Bit mask) t) n out.old out.new) (out.new ≡ out.old) result }
     ensures spared { length scratch.old < 4 * (C.Reads.meaning map.now).size → scratch.new ≡ scratch.old }
 {
-    admit(map, mask, t, scratch.len(), out.len())?;
-    Ok(write_orbit(map, mask, t, scratch, out))
+    let tuple = admit(map, mask, t, scratch.len(), out.len())?;
+    Ok(write_orbit(&tuple, mask, scratch, out))
 }

@@ -3,4 +3,4 @@ use Rattle.gmap.specs.Map.{Free}
 use Rattle.questions.proofs.wholeness.linked_below.Given as goal
 
 abbrev pub invariant-loop-i : goal.invariant-loop-i
-invariant-loop-i g l = (k : ℕ) → k < l.i → Free (g.C.Reads.meaning l.map) k l.t → ⊥
+invariant-loop-i g l = (k : ℕ) → k < l.i → Free (g.C.Reads.meaning l.tuple.map.now) k l.tuple.slot → ⊥

@@ -1,13 +1,18 @@
 use Rattle.std.proofs.Common.{◌≡◌, ◌≤◌, true, length, arith, rules}
 use Rattle.gmap.proofs.Orbits.{orbit_live}
+use Rattle.questions.proofs.Ranking.{rankable, ranked}
 use Rattle.questions.proofs.search.cell.cell.Goals as goal
 
 -- the tuples of the cell are slots
 pub rank-requires : goal.rank-requires
 rank-requires g c =
-    let m = g.C.Reads.meaning c.args.map.now in
-    let law = g.met.C.GMap.partners c.args.map.now in
-    let s = c.list_upwards-count.ensures in
-    let live : m.live c.args.t ≡ true = search rules in
-    let deep : m.size ≤ length c.list_upwards-count.new.places = search rules in
-    record { fits = search rules; rises = s.rises; low = λ k h. omega (arith, deep, law.inside _ (orbit_live m law _ true live (s.only k h))) }
+    let tuple = c.in_ok-tuple.tuple in
+    let m = g.C.Reads.meaning tuple.map.now in
+    let law = g.met.C.GMap.partners tuple.map.now in
+    let deep : m.size ≤ length c.args.ranks.now = search rules in
+    rankable _ _ _ _ c.list_upwards-count.ensures _ (omega (arith, law.few, c.list_upwards-count.ensures.fits)) (λ x o. omega (arith, deep, law.inside _ (orbit_live m law _ true tuple.live o)))
+
+pub returns : goal.returns
+returns g c = 
+    let (passes, (map, slot)) = c.in_ok-tuple.ensures in
+    (passes, rw (map, slot) at (ranked _ _ _ _ c.list_upwards-count.ensures _ c.rank.ensures))

@@ -1,4 +1,4 @@
-use Rattle.std.proofs.Common.{◌≡◌, ◌≤◌, length, sym, ◌∙◌, subst, arith}
+use Rattle.std.proofs.Common.{◌≡◌, length, sym, ◌∙◌, subst, arith}
 use Rattle.questions.specs.declared.search.Found.{Found}
 use Rattle.questions.proofs.Labels.{Labelling, labelling_skip, labelling_more, labelling_done}
 use Rattle.questions.proofs.search.cells.label_all.Goals as goal
@@ -8,16 +8,13 @@ pub loop-t-preserved : goal.loop-t-preserved
 loop-t-preserved g c =
     let m = g.C.Reads.meaning c.args.map.now in
     let law = g.met.C.GMap.partners c.args.map.now in
-    let F : Found → Type 0 = λ f. (length f.list.now ≡ m.size) × (length f.list.now ≤ length f.places.now) in
-    let (s, room, deep) = c.loop-t.invariant in
+    let F : Found → Type 0 = λ f. length f.list.now ≡ m.size in
+    let (s, room) = c.loop-t.invariant in
     elim c.if-is_unlabelled.branch [
       | then-is_unlabelled w ↦
-          let found = w.gather.ensures.set in
-          let kept : F c.if-is_unlabelled.found = subst F (sym w.found-is) (found.long ∙ room, found.kept.deep) in
-          (rw (w.out-is, w.cells-is) (labelling_more m law _ _ _ _ _ s w.if-is_unlabelled.ensures _ _ found.orbit _ w.label.ensures), kept.0, kept.1)
+          (rw (w.out-is, w.cells-is) (labelling_more m law _ _ _ _ _ s w.if-is_unlabelled.ensures _ _ w.gather.ensures.orbit _ w.label.ensures), subst F (sym w.found-is) (w.gather.ensures.long ∙ room))
       | else-is_unlabelled w ↦
-          let kept : F c.if-is_unlabelled.found = subst F (sym w.found-is) (room, deep) in
-          (rw (w.out-is, w.cells-is) (labelling_skip m law _ _ _ _ _ s w.if-is_unlabelled.ensures), kept.0, kept.1)
+          (rw (w.out-is, w.cells-is) (labelling_skip m law _ _ _ _ _ s w.if-is_unlabelled.ensures), subst F (sym w.found-is) room)
     ]
 
 pub returns : goal.returns
