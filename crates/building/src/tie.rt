@@ -1,8 +1,11 @@
-// Tying the tuples of a side to their mates.
-ghost use Rattle.std.specs.Prelude.{◌<◌, ◌≤◌, true, length, MatchResult};
-ghost use Rattle.gmap.specs.Building.{AllTied};
+// Tying two far orbits.
+ghost use Rattle.std.specs.Prelude.{◌≡◌, ◌*◌, ◌<◌, length, MatchResult};
+ghost use Rattle.gmap.specs.Building.{join_checks, AllTied, Joined};
+ghost use Rattle.gmap.specs.Map.{Same};
+ghost use Rattle.gmap.specs.Outcome.{Outcome};
 ghost use Rattle.building.specs.Tying.{PairsOf, Tieable};
 
+use crate::seam::Seam;
 use gmap::map::GMapMut;
 use gmap::refusal::Refusal;
 
@@ -27,4 +30,28 @@ pub fn tie_pairs<B: GMapMut>(
         }
     }
     Ok(links)
+}
+
+// Ties t and u in switch i, and with them their partners in all far switches; answers how many links that makes.
+// What the scratch holds afterwards is free, unless it is too short: then it is as it was.
+pub fn join<B: GMapMut>(
+    board: &mut B,
+    i: u16,
+    t: u16,
+    u: u16,
+    scratch: &mut [u16],
+) -> Result<u16, Refusal>
+    ensures outcome { Outcome (join_checks (B.Reads.meaning board.old) (length scratch.old) i t u) (λ n. Joined (B.Reads.meaning board.old) i t u n (B.Reads.meaning board.new)) (Same (B.Reads.meaning board.new) (B.Reads.meaning board.old)) result }
+    ensures spared { length scratch.old < 4 * (B.Reads.meaning board.old).size → scratch.new ≡ scratch.old }
+{
+    let size = board.size() as usize;
+    if scratch.len() < 4 * size {
+        return Err(Refusal::Short);
+    }
+    let seam = Seam::new(board, i, t, u)?;
+    let (left, rest) = scratch.split_at_mut(size);
+    let (right, rest) = rest.split_at_mut(size);
+    let (mates, places) = rest.split_at_mut(size);
+    let side = seam.pair_sides(left, right, mates, places)?;
+    tie_pairs(board, i, side, mates)
 }
