@@ -24,11 +24,6 @@ cleared_more m i xs k ms ms' lt free s =
 pub not_loose : (m : Map) (i t u x : ℕ) → OnSides m i t u x → (Free m i x → ⊥) → Fits m i t u → ⊥
 not_loose m i t u x on linked fits = let (y, p) = side_pair m i t u on in linked (fits.loose x y p)
 
--- the same of the list that the first tuples stand in
-pub cleared_list : (m : Map) (i : ℕ) (xs ys : List ℕ) (k n : ℕ) (ms ms' : List ℕ) → ((x : ℕ) → Among xs k x → Among ys n x) → ((x : ℕ) → Among ys n x → Among xs k x) → Cleared m i xs k ms ms' → Cleared m i ys n ms ms'
-cleared_list m i xs ys k n ms ms' to fro s =
-    record { free = λ x a. s.free x (fro x a); marked = record { long = s.marked.long; there = λ x a. s.marked.there x (fro x a); rest = λ x q. s.marked.rest x (λ a. q (to x a)) } }
-
 module _ (m : Map) (i t u : ℕ) (xs ys : List ℕ) (k n : ℕ) (o : Collected m (Far i) t k xs) (p : Collected m (Far i) u n ys) (ms ms' ms'' : List ℕ) (a : Cleared m i xs k ms ms') (b : Cleared m i ys n ms' ms'') where
   pub both_blank : length ms ≡ m.size → Blank m i t u ms''
   both_blank long =

@@ -7,3 +7,4 @@ pub mod Matching
 pub mod Tying
 pub mod Clearing
 pub mod Ready
+pub mod Refused

@@ -27,6 +27,9 @@ module _ (m : Map) (law : Partners m) (i t u : ℕ) (able : Joinable m i t u) wh
   pub pair_below : {x y : ℕ} → Pair m i t u x y → x < m.size
   pair_below p = law.inside _ (pair_live m i t u law able.left able.right p)
 
+  pub mate_live : (ms : List ℕ) → Mates m i t u ms → (x : ℕ) → OnSides m i t u x → Known ms x → m.live (get_or ms x 0) ≡ true
+  mate_live ms w x on k = pair_live m i t u law able.left able.right (pair_sym m i t u (w.sound x on k))
+
   module _ (ms : List ℕ) (w : Mates m i t u ms) (x y : ℕ) (p : Pair m i t u x y) where
     pub clash : Clashes x y ms → Fits m i t u → ⊥
     clash (ne, known) f =
@@ -119,16 +122,13 @@ module _ (m : Map) (law : Partners m) (i t u : ℕ) (able : Joinable m i t u) wh
     pub pairing_side : OnSides m i t u x
     pairing_side = inl (o.only k below)
 
-    mate_live : (z : ℕ) → OnSides m i t u z → Known ms z → m.live (get_or ms z 0) ≡ true
-    mate_live z on q = pair_live m i t u law able.left able.right (pair_sym m i t u (s.mates.sound z on q))
-
     -- a tuple is met only after the one that it was found from
     pub pairing_known : Known ms x
     pairing_known =
         ⊎_elim
         (λ e. λ q. live_known u able.right (sym (ap (λ v. get_or ms v 0) (ap (λ l. get_or xs l 0) e ∙ o.first) ∙ s.left) ∙ q))
         (λ e. let (p, j, l, f, w) = o.from k (omega arith) below in
-        λ q. live_known (m.partner j (get_or ms (get_or xs p 0) 0)) (law.alive j _ ∙ mate_live (get_or xs p 0) (inl (o.only p (omega arith))) (s.known p l)) (sym (s.onward p l j f) ∙ sym (ap (λ v. get_or ms v 0) w) ∙ q))
+        λ q. live_known (m.partner j (get_or ms (get_or xs p 0) 0)) (law.alive j _ ∙ mate_live ms s.mates (get_or xs p 0) (inl (o.only p (omega arith))) (s.known p l)) (sym (s.onward p l j f) ∙ sym (ap (λ v. get_or ms v 0) w) ∙ q))
         (cases_eq k 0)
 
     pub pairing_more : (ms' : List ℕ) → Followed m i t u x (m.top + 1) ms ms' → Pairing m i t u xs (k + 1) ms'
@@ -141,7 +141,7 @@ module _ (m : Map) (law : Partners m) (i t u : ℕ) (able : Joinable m i t u) wh
           onward = below_more (λ l. (j : ℕ) → Far i j → get_or ms' (m.partner j (get_or xs l 0)) 0 ≡ m.partner j (get_or ms' (get_or xs l 0) 0)) k
               (λ l h j g. let e = s.onward l h j g in
               let on = inl (o.only l (omega arith)) in
-              f.kept (m.partner j (get_or xs l 0)) (inl (step j g (o.only l (omega arith)))) (λ q. live_known (m.partner j (get_or ms (get_or xs l 0) 0)) (law.alive j _ ∙ mate_live (get_or xs l 0) on (s.known l h)) (sym e ∙ q)) ∙ e ∙ ap (m.partner j) (sym (keep l (omega arith))))
+              f.kept (m.partner j (get_or xs l 0)) (inl (step j g (o.only l (omega arith)))) (λ q. live_known (m.partner j (get_or ms (get_or xs l 0) 0)) (law.alive j _ ∙ mate_live ms s.mates (get_or xs l 0) on (s.known l h)) (sym e ∙ q)) ∙ e ∙ ap (m.partner j) (sym (keep l (omega arith))))
               (λ j g. ⊎_elim
               (λ h. f.onward j h g ∙ ap (m.partner j) (sym (keep k (omega arith))))
               (λ h. ap (λ v. get_or ms' v 0) (law.high j x (omega arith)) ∙ sym (law.high j (get_or ms' x 0) (omega arith)))

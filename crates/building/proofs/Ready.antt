@@ -1,6 +1,5 @@
 -- Sides that are ready to be tied: the pairs fit, and they are the tuples of one side with their mates.
-use Rattle.std.proofs.Common.{◌≡◌, ℕ, ◌*◌, ◌<◌, ◌⊎◌, List, [], ◌∷◌, length, get_or, sym, ◌∙◌, subst, inl, inr, ⊎_elim, arith}
-use Rattle.std.proofs.lemmas.Bool.{cases_Bool}
+use Rattle.std.proofs.Common.{ℕ, ◌*◌, ◌<◌, ◌⊎◌, List, [], ◌∷◌, length, get_or, sym, ◌∙◌, subst, inl, inr, ⊎_elim}
 use Rattle.gmap.specs.Map.{Map, Partners}
 use Rattle.gmap.specs.Acts.{tie_checks}
 use Rattle.gmap.specs.Orbits.{FarOrbit, here, step}
@@ -13,15 +12,6 @@ use Rattle.building.specs.Tying.{Ready, PairsOf, Tieable}
 use Rattle.building.proofs.Couples.{pair_sym, pair_apart, pair_live, pair_side, side_pair}
 
 module _ (m : Map) (i t u : ℕ) where
-  pub joinable : Passes (tie_checks m i t u) → Joinable m i t u
-  joinable (switch, (slot, (vacant, (same, (linked, rest))))) =
-      record {
-        switch = omega (arith, switch);
-        left = ⊎_elim (λ e. e) (λ e. absurd (vacant (inl e))) (cases_Bool (m.live t));
-        right = ⊎_elim (λ e. e) (λ e. absurd (vacant (inr e))) (cases_Bool (m.live u));
-        apart = same;
-      }
-
   pub join_passes : (scratch : ℕ) → (scratch < 4 * m.size → ⊥) → Passes (tie_checks m i t u) → Fits m i t u → Passes (join_checks m scratch i t u)
   join_passes scratch room p fits = (room, passes_both (tie_checks m i t u) ((Fits m i t u → ⊥, 7) ∷ []) p ((λ q. q fits), tt))
 
@@ -31,39 +21,39 @@ module _ (m : Map) (i t u : ℕ) where
   pair_left turned = inr here
   pair_left (moved j f p) = ⊎_elim (λ o. inl (step j f o)) (λ o. inr (step j f o)) (pair_left p)
 
-  module _ (law : Partners m) (able : Joinable m i t u) (n : ℕ) (left ms : List ℕ) (r : Ready m i t u n left ms) where
+  module _ (law : Partners m) (able : Joinable m i t u) (side ms : List ℕ) (r : Ready m i t u side ms) where
     pub ready_fits : Fits m i t u
     ready_fits = record { single = λ x y z p q. sym (r.matched.all x y p) ∙ r.matched.all x z q; loose = λ x y p. r.free x (pair_side m i t u p) }
 
     pair_of : (x : ℕ) → FarOrbit m i t x → Pair m i t u x (get_or ms x 0)
     pair_of x a = let (y, p) = side_pair m i t u (inl a) in subst (Pair m i t u x) (sym (r.matched.all x y p)) p
 
-    pair_at : (k : ℕ) → k < n → Pair m i t u (get_or left k 0) (get_or ms (get_or left k 0) 0)
-    pair_at k h = pair_of (get_or left k 0) (r.side.only k h)
+    pair_at : (k : ℕ) → k < length side → Pair m i t u (get_or side k 0) (get_or ms (get_or side k 0) 0)
+    pair_at k h = pair_of (get_or side k 0) (r.collected.only k h)
 
-    pub ready_tieable : length left ≡ m.size → Tieable m i left n ms
-    ready_tieable long =
+    pub ready_tieable : Tieable m i side (length side) ms
+    ready_tieable =
         record {
-          switch = able.switch;
-          some = r.side.some;
-          fits = r.side.fits;
-          few = omega (arith, r.side.fits);
+          switch = r.side.switch;
+          some = r.collected.some;
+          fits = r.collected.fits;
+          few = r.side.few;
           long = r.matched.long;
-          live = λ k h. pair_live m i t u law able.left able.right (pair_at k h);
+          live = r.side.live;
           mate = λ k h. pair_live m i t u law able.left able.right (pair_sym m i t u (pair_at k h));
           apart = λ k h. pair_apart m i t u law able.apart (pair_at k h);
-          back = λ k h. r.matched.all (get_or ms (get_or left k 0) 0) (get_or left k 0) (pair_sym m i t u (pair_at k h));
-          free = λ k h. r.free (get_or left k 0) (pair_side m i t u (pair_at k h));
-          mate_free = λ k h. r.free (get_or ms (get_or left k 0) 0) (pair_side m i t u (pair_sym m i t u (pair_at k h)));
+          back = λ k h. r.matched.all (get_or ms (get_or side k 0) 0) (get_or side k 0) (pair_sym m i t u (pair_at k h));
+          free = λ k h. r.free (get_or side k 0) (pair_side m i t u (pair_at k h));
+          mate_free = λ k h. r.free (get_or ms (get_or side k 0) 0) (pair_side m i t u (pair_sym m i t u (pair_at k h)));
         }
 
-    only : (x : ℕ) → Among left n x → FarOrbit m i t x
-    only x (k, h, e) = subst (FarOrbit m i t) e (r.side.only k h)
+    only : (x : ℕ) → Among side (length side) x → FarOrbit m i t x
+    only x (k, h, e) = subst (FarOrbit m i t) e (r.collected.only k h)
 
-    pub pairs_only : (x y : ℕ) → PairsOf left n ms x y → Pair m i t u x y
+    pub pairs_only : (x y : ℕ) → PairsOf side (length side) ms x y → Pair m i t u x y
     pairs_only x y = ⊎_elim
         (λ (a, e). subst (Pair m i t u x) e (pair_of x (only x a)))
         (λ (a, e). pair_sym m i t u (subst (Pair m i t u y) e (pair_of y (only y a))))
 
-    pub pairs_all : (x y : ℕ) → Pair m i t u x y → PairsOf left n ms x y
-    pairs_all x y p = ⊎_elim (λ a. inl (r.side.all x a, r.matched.all x y p)) (λ a. inr (r.side.all y a, r.matched.all y x (pair_sym m i t u p))) (pair_left p)
+    pub pairs_all : (x y : ℕ) → Pair m i t u x y → PairsOf side (length side) ms x y
+    pairs_all x y p = ⊎_elim (λ a. inl (r.collected.all x a, r.matched.all x y p)) (λ a. inr (r.collected.all y a, r.matched.all y x (pair_sym m i t u p))) (pair_left p)

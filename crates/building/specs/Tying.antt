@@ -10,9 +10,9 @@ use Rattle.gmap.specs.Listing.{Among}
 use Rattle.questions.specs.Marks.{Marked}
 use Rattle.questions.specs.Search.{Collected}
 use Rattle.building.specs.Mates.{OnSides, Matched}
+use Rattle.building.specs.Sides.{Side}
 
-pub record Collectable (m : Map) (i t : ℕ) (list places ms : List ℕ) : Type 0 where
-  pub switch : i ≤ m.top
+pub record Collectable (m : Map) (t : ℕ) (list places ms : List ℕ) : Type 0 where
   pub live : m.live t ≡ true
   pub room : length list ≡ m.size
   pub deep : length list ≤ length places
@@ -22,8 +22,9 @@ pub record Cleared (m : Map) (i : ℕ) (xs : List ℕ) (n : ℕ) (ms ms' : List 
   pub free : (x : ℕ) → Among xs n x → Free m i x
   pub marked : Marked (Among xs n) 65535 ms ms'
 
-pub record Ready (m : Map) (i t u n : ℕ) (left ms : List ℕ) : Type 0 where
-  pub side : Collected m (Far i) t n left
+pub record Ready (m : Map) (i t u : ℕ) (xs ms : List ℕ) : Type 0 where
+  pub side : Side m i xs
+  pub collected : Collected m (Far i) t (length xs) xs
   pub matched : Matched m i t u ms
   pub free : (x : ℕ) → OnSides m i t u x → Free m i x
 
