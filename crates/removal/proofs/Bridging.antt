@@ -1,12 +1,13 @@
 -- The bridges across a cell: finding them one by one, and their two sides.
-use Rattle.std.proofs.Common.{◌≡◌, ℕ, ◌+◌, ◌<◌, List, length, get_or, set, sym, refl, ap, ◌∙◌, subst, inl, inr, ⊎_elim, arith, below_more}
-use Rattle.std.proofs.lemmas.List.{get_or-set_same, get_or-set_other}
+use Rattle.std.proofs.Common.{◌≡◌, ℕ, ◌+◌, ◌<◌, ◌≤◌, List, length, get_or, set, take, sym, refl, ap, ◌∙◌, subst, inl, inr, ⊎_elim, arith, below_more}
+use Rattle.std.proofs.lemmas.List.{get_or-set_same, get_or-set_other, get_or-take, length-take-le}
 use Rattle.std.proofs.lemmas.Bool.{cases_eq}
+use Rattle.gmap.specs.Listing.{Among}
 use Rattle.gmap.specs.Map.{Map, Partners}
 use Rattle.gmap.proofs.Listing.{among_split}
 use Rattle.removal.specs.Crossing.{In, Crosses, out, Lands}
-use Rattle.removal.specs.Stages.{Celled, Bridge, Noted, Bridged}
-use Rattle.removal.proofs.Crossing.{crosses_off, crosses_single, crosses_back, crosses_beside}
+use Rattle.removal.specs.Stages.{Celled, Bridge, Bridged}
+use Rattle.removal.proofs.Walks.{crosses_off, crosses_single, crosses_back, crosses_beside}
 
 module _ {m : Map} (law : Partners m) {i : ℕ} {xs : List ℕ} {k : ℕ} (below : k < length xs) {n : ℕ} {bs ends : List ℕ} (s : Bridged m i xs k n bs ends) {x end : ℕ} (is : x ≡ m.partner i (get_or xs k 0)) (lands : Lands m i xs x end) where
   inward : m.partner i x ≡ get_or xs k 0
@@ -16,7 +17,7 @@ module _ {m : Map} (law : Partners m) {i : ℕ} {xs : List ℕ} {k : ℕ} (below
   only_x : (y : ℕ) → m.partner i y ≡ get_or xs k 0 → y ≡ x
   only_x y e = sym (law.back i y) ∙ ap (m.partner i) e ∙ sym is
 
-  bridged_skip : x ≡ end → Bridged m i xs (k + 1) n bs ends
+  pub bridged_skip : x ≡ end → Bridged m i xs (k + 1) n bs ends
   bridged_skip e =
       record {
         few = omega (arith, s.few);
@@ -50,7 +51,7 @@ module _ {m : Map} (law : Partners m) {i : ℕ} {xs : List ℕ} {k : ℕ} (below
     good_before : (l : ℕ) → l < n → Good (get_or bs l 0)
     good_before l h = ⊎_elim (λ e. subst Good (sym e) good_x) (λ e. subst (Bridge m i xs (get_or bs l 0)) (sym (get_or-set_other ends x (get_or bs l 0) end 0 e)) (s.each l h)) (cases_eq (get_or bs l 0) x)
 
-    bridged_more : Bridged m i xs (k + 1) (n + 1) bs' ends'
+    pub bridged_more : Bridged m i xs (k + 1) (n + 1) bs' ends'
     bridged_more =
         record {
           few = omega (arith, s.few);
@@ -61,14 +62,18 @@ module _ {m : Map} (law : Partners m) {i : ℕ} {xs : List ℕ} {k : ℕ} (below
               (among_split xs k (m.partner i y) a);
         }
 
-  pub bridged_noted : {n' : ℕ} {bs' ends' : List ℕ} → n < length bs → x < length ends → Noted x end n n' bs bs' ends ends' → Bridged m i xs (k + 1) n' bs' ends'
-  bridged_noted room slot d =
-      ⊎_elim
-      (λ e. let (p, q, r) = d.one e in rw (p, q, r) (bridged_skip e))
-      (λ e. let (p, q, r) = d.two e in rw (p, q, r) (bridged_more e room slot))
-      (cases_eq x end)
+-- the bridges as a list of their own
+pub bridged_front : {m : Map} {i : ℕ} {xs : List ℕ} {k n : ℕ} {bs ends : List ℕ} → k ≡ length xs → n ≤ length bs → Bridged m i xs k n bs ends → Bridged m i xs (length xs) (length (take n bs)) (take n bs) ends
+bridged_front {m} {i} {xs} {k} {n} {bs} {ends} all fits s =
+    let long : length (take n bs) ≡ n = length-take-le n bs fits in
+    let at : (l : ℕ) → l < n → get_or (take n bs) l 0 ≡ get_or bs l 0 = λ l h. get_or-take n bs l 0 h in
+    record {
+      few = omega (arith, long, s.few);
+      each = λ l h. let b : l < n = omega (arith, long) in subst (λ x. Bridge m i xs x (get_or ends x 0)) (sym (at l b)) (s.each l b);
+      all = λ x q a. ⊎_elim (λ (l, h, e). inl (l, omega (arith, long), at l h ∙ e)) (λ o. inr o) (s.all x q (subst (λ j. Among xs j (m.partner i x)) (sym all) a));
+    }
 
-module _ {m : Map} (law : Partners m) {i : ℕ} {xs ranks : List ℕ} (cell : Celled m i xs ranks) where
+module _ {m : Map} (law : Partners m) {i : ℕ} {xs : List ℕ} (cell : Celled m i xs) where
   pub bridge_turn : {x y : ℕ} → Bridge m i xs x y → Bridge m i xs y x
   bridge_turn {x} b =
       record {

@@ -1,5 +1,5 @@
 -- Lemmas of a removal.
-pub mod Crossing
+pub mod Walks
 pub mod Bridging
 pub mod Clearing
 pub mod Taking
