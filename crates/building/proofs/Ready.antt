@@ -1,7 +1,7 @@
 -- Sides that are ready to be tied: the pairs fit, and they are the tuples of one side with their mates.
-use Rattle.std.proofs.Common.{◌≡◌, ℕ, ◌*◌, ◌<◌, ◌⊎◌, List, [], ◌∷◌, length, get_or, sym, ◌∙◌, subst, inl, inr, ⊎_elim, arith}
+use Rattle.std.proofs.Common.{ℕ, ◌*◌, ◌<◌, ◌≤◌, ◌⊎◌, List, [], ◌∷◌, length, get_or, sym, ◌∙◌, subst, inl, inr, ⊎_elim, arith}
 use Rattle.std.proofs.lemmas.Bool.{cases_Bool}
-use Rattle.gmap.specs.Map.{Map, Partners}
+use Rattle.gmap.specs.Map.{Map, Partners, Far}
 use Rattle.gmap.specs.Acts.{tie_checks}
 use Rattle.gmap.specs.Orbits.{FarOrbit, here, step}
 use Rattle.gmap.specs.Building.{Pair, given, turned, moved, Fits, join_checks}
@@ -10,6 +10,7 @@ use Rattle.gmap.specs.Outcome.{Passes}
 use Rattle.gmap.proofs.Outcomes.{passes_both}
 use Rattle.building.specs.Mates.{Joinable}
 use Rattle.building.specs.Tying.{Ready, PairsOf, Tieable}
+use Rattle.building.proofs.Sides.{front, collected_front}
 use Rattle.building.proofs.Couples.{pair_sym, pair_apart, pair_live, pair_side, side_pair}
 
 module _ (m : Map) (i t u : ℕ) where
@@ -24,6 +25,10 @@ module _ (m : Map) (i t u : ℕ) where
 
   pub join_passes : (scratch : ℕ) → (scratch < 4 * m.size → ⊥) → Passes (tie_checks m i t u) → Fits m i t u → Passes (join_checks m scratch i t u)
   join_passes scratch room p fits = (room, passes_both (tie_checks m i t u) ((Fits m i t u → ⊥, 7) ∷ []) p ((λ q. q fits), tt))
+
+  -- the side alone is ready as the list that it stands in is
+  pub ready_front : (n : ℕ) (left ms : List ℕ) (r : Ready m i t u n left ms) → Ready m i t u (length (front m (Far i) t n left r.side)) (front m (Far i) t n left r.side) ms
+  ready_front n left ms r = record { side = collected_front m _ _ _ _ r.side; matched = r.matched; free = r.free }
 
   -- a pair has an end on the side of t
   pair_left : {x y : ℕ} → Pair m i t u x y → FarOrbit m i t x ⊎ FarOrbit m i t y
@@ -41,7 +46,7 @@ module _ (m : Map) (i t u : ℕ) where
     pair_at : (k : ℕ) → k < n → Pair m i t u (get_or left k 0) (get_or ms (get_or left k 0) 0)
     pair_at k h = pair_of (get_or left k 0) (r.side.only k h)
 
-    pub ready_tieable : length left ≡ m.size → Tieable m i left n ms
+    pub ready_tieable : length left ≤ m.size → Tieable m i left n ms
     ready_tieable long =
         record {
           switch = able.switch;

@@ -1,6 +1,5 @@
 -- A far orbit in front of a list, cut off there: a side.
-use Rattle.std.proofs.Common.{◌≡◌, ℕ, ◌-◌, ◌<◌, ◌≤◌, true, List, length, get_or, take, sym, ap, ◌∙◌, subst, arith}
-use native.Mathlib.Nat.{sub-zero}
+use Rattle.std.proofs.Common.{◌≡◌, ℕ, ◌<◌, ◌≤◌, true, List, length, get_or, take, sym, ap, ◌∙◌, subst, arith}
 use Rattle.std.proofs.lemmas.List.{get_or-take, length-take-le}
 use Rattle.gmap.specs.Map.{Map, Partners, Far}
 use Rattle.gmap.specs.Orbits.{Orbit, FarOrbit}
@@ -10,15 +9,15 @@ use Rattle.questions.specs.Search.{Collected}
 use Rattle.building.specs.Sides.{Side}
 
 module _ (m : Map) (via : ℕ → Type 0) (t n : ℕ) (xs : List ℕ) (o : Collected m via t n xs) where
-  -- as the code has `&xs[0..n]`
+  -- as the code has `&xs[..n]`
   abbrev pub front : List ℕ
-  front = take (n - 0) xs
+  front = take n xs
 
   long : length front ≡ n
-  long = rw sub-zero (length-take-le n xs o.fits)
+  long = length-take-le n xs o.fits
 
   at : (k : ℕ) → k < n → get_or front k 0 ≡ get_or xs k 0
-  at k h = rw sub-zero (get_or-take n xs k 0 h)
+  at k h = get_or-take n xs k 0 h
 
   pub collected_front : Collected m via t (length front) front
   collected_front =

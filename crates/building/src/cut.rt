@@ -42,5 +42,5 @@ pub fn part<B: GMapMut>(board: &mut B, i: u16, t: u16, scratch: &mut [u16]) -> R
     }
     let (list, places) = scratch.split_at_mut(size);
     let count = far_orbit(board, i, t, list, places);
-    cut_links(board, i, &list[0..count as usize])
+    cut_links(board, i, &list[..count as usize])
 }

@@ -4,7 +4,9 @@
 mod cut;
 mod pairs;
 mod slots;
+mod tie;
 
 pub use cut::{cut_links, part};
-pub use pairs::join::{join, tie_pairs};
+pub use pairs::join::join;
 pub use slots::{make, unmake};
+pub use tie::tie_pairs;

@@ -12,6 +12,7 @@ ghost use Rattle.building.specs.Sides.{Side};
 ghost use Rattle.building.specs.Tying.{Collectable, Cleared, Ready, PairsOf, Tieable};
 
 use super::{Seam, UNKNOWN, match_sides};
+use crate::tie::tie_pairs;
 use gmap::map::{GMap, GMapMut};
 use gmap::refusal::Refusal;
 use questions::far_orbit;
@@ -69,7 +70,7 @@ fn collect_side<C: GMap>(
     ensures { MatchResult result (λ n. Collected (C.Reads.meaning map.now) (Far i) t n list.new × Cleared (C.Reads.meaning map.now) i list.new n mates.old mates.new) (λ e. (e ≡ Misfit) × ((x : ℕ) × FarOrbit (C.Reads.meaning map.now) i t x × (Free (C.Reads.meaning map.now) i x → ⊥))) }
 {
     let count = far_orbit(map, i, t, list, places);
-    clear_side(map, i, &list[0..count as usize], mates)?;
+    clear_side(map, i, &list[..count as usize], mates)?;
     Ok(count)
 }
 
@@ -89,33 +90,8 @@ fn pair_sides<C: GMap>(
 {
     let count = collect_side(map, seam.i, seam.t, left, places, mates)?;
     let _ = collect_side(map, seam.i, seam.u, right, places, mates)?;
-    match_sides(map, seam, &left[0..count as usize], mates)?;
+    match_sides(map, seam, &left[..count as usize], mates)?;
     Ok(count)
-}
-
-// Ties the first tuples of a list, which are a side, to their mates; answers how many links that makes.
-// Where both sides are one orbit, a pair is met from both its ends, and is tied and counted at the first.
-// A step of join and of a removal, which know that the tuples and their mates are free.
-pub fn tie_pairs<B: GMapMut>(
-    board: &mut B,
-    i: u16,
-    list: &[u16],
-    count: u16,
-    mates: &[u16],
-) -> Result<u16, Refusal>
-    requires { Tieable (B.Reads.meaning board.old) i list.now count mates.now }
-    ensures { MatchResult result (λ n. AllTied (B.Reads.meaning board.old) i (PairsOf list.now count mates.now) n (B.Reads.meaning board.new)) (λ _. ⊥) }
-{
-    let mut links = 0;
-    for k in 0..count {
-        let x = list[k as usize];
-        let partner = board.partner(i, x)?;
-        if partner == x {
-            board.tie(i, x, mates[x as usize])?;
-            links += 1;
-        }
-    }
-    Ok(links)
 }
 
 // Ties t and u in switch i, and with them their partners in all far switches; answers how many links that makes.
@@ -140,5 +116,5 @@ pub fn join<B: GMapMut>(
     let (right, rest) = rest.split_at_mut(size);
     let (mates, places) = rest.split_at_mut(size);
     let count = pair_sides(board, seam, left, right, mates, places)?;
-    tie_pairs(board, i, left, count, mates)
+    tie_pairs(board, i, &left[..count as usize], mates)
 }

@@ -7,7 +7,8 @@ use Rattle.gmap.specs.declared.refusal.Refusal.TheVariants.{Misfit}
 use Rattle.gmap.proofs.Same.{same_refl}
 use Rattle.gmap.proofs.Outcomes.{first_behind, accepted}
 use Rattle.building.proofs.Tying.{tie_like}
-use Rattle.building.proofs.Ready.{joinable, join_passes, ready_fits, ready_tieable, pairs_only, pairs_all}
+use Rattle.building.proofs.Sides.{front_few}
+use Rattle.building.proofs.Ready.{joinable, join_passes, ready_fits, ready_front, ready_tieable, pairs_only, pairs_all}
 use Rattle.building.proofs.pairs.join.join.Goals as goal
 
 pub pair_sides-requires : goal.pair_sides-requires
@@ -41,7 +42,8 @@ tie_pairs-requires g c =
     let m = g.B.Reads.meaning c.args.board.now in
     let law = g.met.B.GMap.partners c.args.board.now in
     let able = joinable m _ _ _ c.in_ok-admit.ensures.0 in
-    ready_tieable m _ _ _ law able _ _ _ c.in_ok-count.ensures (c.pair_sides.auto.left ∙ c.split_at_mut-left.ensures.front_len ∙ c.size-size.ensures)
+    let ready = c.in_ok-count.ensures in
+    ready_tieable m _ _ _ law able _ _ _ (ready_front m _ _ _ _ _ _ ready) (omega (arith, front_few m _ _ _ _ ready.side, c.pair_sides.auto.left, c.split_at_mut-left.ensures.front_len, c.size-size.ensures))
 
 pub returns : goal.returns
 returns g c =
@@ -49,7 +51,7 @@ returns g c =
     let law = g.met.B.GMap.partners c.args.board.now in
     let tie = c.in_ok-admit.ensures.0 in
     let able = joinable m _ _ _ tie in
-    let ready = c.in_ok-count.ensures in
+    let ready = ready_front m _ _ _ _ _ _ c.in_ok-count.ensures in
     let room : length c.args.scratch.now < 4 * m.size → ⊥ = λ h. omega (arith, c.if-scratch-size.false, c.size-size.ensures) in
     record {
       outcome = accepted (join_checks m (length c.args.scratch.now) c.args.i c.args.t c.args.u) _ _ (Same (g.B.Reads.meaning c.tie_pairs.new.board) m) _ (join_passes m _ _ _ _ room tie (ready_fits m _ _ _ law able _ _ _ ready)) c.tie_pairs.ensures (λ n s. tie_like m _ _ _ n _ (pairs_only m _ _ _ law able _ _ _ ready) (pairs_all m _ _ _ law able _ _ _ ready) s);
