@@ -27,7 +27,7 @@ fn tie_ends<B: GMapMut>(
     if borders.is_empty() {
         return Ok(0);
     }
-    tie_pairs(board, i, borders, borders.len() as u16, ends)
+    tie_pairs(board, i, borders, ends)
 }
 
 // Takes the tuples of a cell out, and ties each tuple beside it to the one that its walk across the cell leads to.
