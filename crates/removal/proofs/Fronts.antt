@@ -1,5 +1,5 @@
 -- A cell in front of a list, cut off there: it can be taken out, and what that leaves is the removal of the cell.
-use Rattle.std.proofs.Common.{◌≡◌, ℕ, ◌<◌, ◌≤◌, true, false, List, length, get_or, take, sym, refl, ap, ◌∙◌, subst, ⊎_elim, arith}
+use Rattle.std.proofs.Common.{◌≡◌, ℕ, ◌<◌, ◌≤◌, true, false, List, length, get_or, take, sym, refl, ap, ◌∙◌, ⊎_elim, arith}
 use Rattle.std.proofs.lemmas.List.{get_or-take, length-take-le}
 use Rattle.std.proofs.lemmas.Bool.{cases_Bool}
 use Rattle.gmap.specs.Map.{Map, Partners}
@@ -22,7 +22,7 @@ module _ {m : Map} {i t n : ℕ} {xs ranks : List ℕ} (r : Ranked (Cell m i t) 
   at k h = get_or-take n xs k 0 h
 
   in_cell : (x : ℕ) → In front x → Cell m i t x
-  in_cell x (k, h, e) = let l : k < n = omega (arith, long) in subst (Cell m i t) (sym (at k l) ∙ e) (r.only k l)
+  in_cell x (k, h, e) = let l : k < n = omega (arith, long) in rw (sym e ∙ at k l) (r.only k l)
 
   cell_in : (x : ℕ) → Cell m i t x → In front x
   cell_in x p = let (k, h, e) = r.all x p in (k, omega (arith, long), at k h ∙ e)
@@ -43,7 +43,7 @@ module _ {m : Map} {i t n : ℕ} {xs ranks : List ℕ} (r : Ranked (Cell m i t) 
         few = omega (arith, long, r.fits);
         live = λ k h. orbit_live m law _ true live (in_cell _ (k, h, refl));
         apart = members.apart;
-        closed = λ j x e q p. q (cell_in x (subst (Cell m i t) (law.back j x) (step j e (in_cell _ p))));
+        closed = λ j x e q p. q (cell_in x (rw (← law.back j x) (step j e (in_cell _ p))));
       }
 
   pub front_ranks : Ranks front ranks
@@ -64,6 +64,6 @@ module _ {m : Map} {i t n : ℕ} {xs ranks : List ℕ} (r : Ranked (Cell m i t) 
         still = λ j x p. s.still j x (cell_in x p);
         stays = λ x q. s.stays x (λ p. q (in_cell x p));
         others = λ j x e q. s.others j x e (λ p. q (in_cell x p));
-        across = λ x q. crosses_leads m i t front in_cell cell_in (s.across x (λ p. q (in_cell x p)));
+        across = λ x q. crosses_leads in_cell cell_in (s.across x (λ p. q (in_cell x p)));
         count = (front, members, long);
       }

@@ -1,5 +1,5 @@
 -- Once the links at a cell are cut, its bridges can be tied and its slots closed, and then the cell is taken out.
-use Rattle.std.proofs.Common.{◌≡◌, ℕ, ◌+◌, ◌<◌, ◌≤◌, true, List, length, get_or, sym, refl, ap, ◌∙◌, subst, inl, inr, ⊎_elim, arith}
+use Rattle.std.proofs.Common.{◌≡◌, ℕ, ◌+◌, ◌<◌, true, List, length, get_or, sym, refl, ap, ◌∙◌, inl, inr, ⊎_elim, arith}
 use Rattle.std.proofs.lemmas.Bool.{cases_eq, cases_lt}
 use Rattle.gmap.specs.Map.{Map, Partners, Free}
 use Rattle.gmap.specs.Building.{AllTied}
@@ -8,7 +8,7 @@ use Rattle.building.specs.Tying.{PairsOf, Tieable}
 use Rattle.removal.specs.Crossing.{In, Crosses, out}
 use Rattle.removal.specs.Stages.{Celled, Bridge, Bridged, CutBelow, Closable, Closed, TakenOut}
 use Rattle.removal.proofs.Walks.{crosses_single}
-use Rattle.removal.proofs.Bridging.{bridge_turn, bridge_known}
+use Rattle.removal.proofs.Bridging.{bridge_of, bridge_turn, bridge_known}
 
 module _ {m : Map} (law : Partners m) {i : ℕ} {xs : List ℕ} (cell : Celled m i xs) where
   live_in : (x : ℕ) → In xs x → m.live x ≡ true
@@ -16,8 +16,8 @@ module _ {m : Map} (law : Partners m) {i : ℕ} {xs : List ℕ} (cell : Celled m
 
   module _ {bs ends : List ℕ} (s : Bridged m i xs (length xs) (length bs) bs ends) {cut : Map} (c : CutBelow m (In xs) (m.top + 1) cut) where
     pair_bridge : (x y : ℕ) → PairsOf bs (length bs) ends x y → Bridge m i xs x y
-    pair_bridge x y (inl ((l, h, e), f)) = subst (Bridge m i xs x) f (subst (λ v. Bridge m i xs v (get_or ends v 0)) e (s.each l h))
-    pair_bridge x y (inr ((l, h, e), f)) = bridge_turn law cell (subst (Bridge m i xs y) f (subst (λ v. Bridge m i xs v (get_or ends v 0)) e (s.each l h)))
+    pair_bridge x y (inl (a, f)) = rw (← f) (bridge_of s x a)
+    pair_bridge x y (inr (a, f)) = bridge_turn law cell (rw (← f) (bridge_of s y a))
 
     loose : (x : ℕ) → In xs (m.partner i x) → Free cut i x
     loose x p = c.cuts i x (omega (arith, cell.switch)) (inr p)
@@ -46,8 +46,8 @@ module _ {m : Map} (law : Partners m) {i : ℕ} {xs : List ℕ} (cell : Celled m
       tied_free : (j x : ℕ) → In xs x → tied.partner j x ≡ x
       tied_free j x p =
           ⊎_elim
-          (λ (e : j ≡ i). subst (λ v. tied.partner v x ≡ x) (sym e) (d.rest x (λ y r. (pair_bridge x y r).outside p) ∙ cut_free i x p))
-          (λ (e : j ≡ i → ⊥). d.frame.others j x e ∙ cut_free j x p)
+          (λ e. rw e (d.rest x (λ y r. (pair_bridge x y r).outside p) ∙ cut_free i x p))
+          (λ e. d.frame.others j x e ∙ cut_free j x p)
           (cases_eq j i)
 
       pub closable : Closable tied xs
@@ -64,10 +64,10 @@ module _ {m : Map} (law : Partners m) {i : ℕ} {xs : List ℕ} (cell : Celled m
       ends_at x q =
           ⊎_elim
           (λ p. ⊎_elim
-          (λ (l, h, e). let b = subst (λ v. Bridge m i xs v (get_or ends v 0)) e (s.each l h) in subst (Crosses m i xs (m.partner i x)) (sym (d.ties x _ (inl ((l, h, e), refl)))) b.leads)
-          (λ o. subst (Crosses m i xs (m.partner i x)) (sym (d.rest x (λ y r. let b = pair_bridge x y r in b.apart (crosses_single law cell o b.leads)) ∙ loose x p)) o)
+          (λ a. rw (d.ties x _ (inl (a, refl))) (bridge_of s x a).leads)
+          (λ o. rw (d.rest x (λ y r. let b = pair_bridge x y r in b.apart (crosses_single law cell o b.leads)) ∙ loose x p) o)
           (s.all x q p))
-          (λ p. subst (Crosses m i xs (m.partner i x)) (sym (d.rest x (λ y r. p (pair_bridge x y r).beside) ∙ c.rest i x (λ h. ⊎_elim q p))) (out p))
+          (λ p. rw (d.rest x (λ y r. p (pair_bridge x y r).beside) ∙ c.rest i x (λ h. ⊎_elim q p)) (out p))
           (among_cases xs (length xs) (m.partner i x))
 
       pub taken_out : {last : Map} → Closed tied (In xs) last → TakenOut m i xs last
@@ -79,5 +79,5 @@ module _ {m : Map} (law : Partners m) {i : ℕ} {xs : List ℕ} (cell : Celled m
             still = λ j x p. f.partner j x ∙ tied_free j x p;
             stays = λ x q. f.stays x q ∙ d.frame.live x ∙ c.live x;
             others = λ j x e q. f.partner j x ∙ d.frame.others j x e ∙ c.rest j x (λ h. ⊎_elim q (cell.closed j x e q));
-            across = λ x q. subst (Crosses m i xs (m.partner i x)) (sym (f.partner i x)) (ends_at x q);
+            across = λ x q. rw (f.partner i x) (ends_at x q);
           }

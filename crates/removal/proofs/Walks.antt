@@ -1,5 +1,5 @@
 -- A walk across a list leads to one tuple, leads back the same way, and is out after as many steps as the list has tuples.
-use Rattle.std.proofs.Common.{◌≡◌, ℕ, zero, suc, ◌+◌, ◌<◌, ◌≤◌, List, length, get_or, sym, refl, ap, ◌∙◌, subst, ⊎_elim, add-one, arith, below_more}
+use Rattle.std.proofs.Common.{◌≡◌, ℕ, zero, suc, ◌+◌, ◌<◌, ◌≤◌, List, length, get_or, sym, refl, ap, ◌∙◌, ⊎_elim, add-one, arith, below_more}
 use Rattle.std.proofs.lemmas.Bool.{cases_lt}
 use Rattle.gmap.specs.Map.{Map, Partners}
 use Rattle.gmap.specs.Orbits.{Cell}
@@ -10,15 +10,13 @@ use Rattle.removal.specs.Crossing.{In, onward, Crosses, out, on, Trail, Lands}
 use Rattle.removal.specs.Stages.{Celled}
 
 -- across the tuples of a cell, the walk is that of a removal
-pub crosses_leads : (m : Map) (i t : ℕ) (xs : List ℕ) → ((x : ℕ) → In xs x → Cell m i t x) → ((x : ℕ) → Cell m i t x → In xs x) → {x y : ℕ} → Crosses m i xs x y → Leads m i t x y
-crosses_leads m i t xs to fro (out {x} q) = leads_out (λ p. q (fro x p))
-crosses_leads m i t xs to fro (on {x} p o) = leads_on (to x p) (crosses_leads m i t xs to fro o)
+pub crosses_leads : {m : Map} {i t : ℕ} {xs : List ℕ} → ((x : ℕ) → In xs x → Cell m i t x) → ((x : ℕ) → Cell m i t x → In xs x) → {x y : ℕ} → Crosses m i xs x y → Leads m i t x y
+crosses_leads to fro (out {x} q) = leads_out (λ p. q (fro x p))
+crosses_leads to fro (on {x} p o) = leads_on (to x p) (crosses_leads to fro o)
 
 module _ {m : Map} (law : Partners m) {i : ℕ} {xs : List ℕ} (cell : Celled m i xs) where
   above : (x : ℕ) → In xs x → In xs (m.partner (i + 1) x)
-  above x p =
-      let y = m.partner (i + 1) x in
-      ⊎_elim (λ a. a) (λ q. absurd (cell.closed (i + 1) y (λ e. omega arith) q (subst (In xs) (sym (law.back (i + 1) x)) p))) (among_cases xs (length xs) y)
+  above x p = ⊎_elim (λ a. a) (λ q. absurd (cell.closed (i + 1) _ (λ e. omega arith) q (rw law.back p))) (among_cases xs (length xs) (m.partner (i + 1) x))
 
   pub crosses_off : {x y : ℕ} → Crosses m i xs x y → In xs y → ⊥
   crosses_off (out q) = q
@@ -34,17 +32,13 @@ module _ {m : Map} (law : Partners m) {i : ℕ} {xs : List ℕ} (cell : Celled m
   pub crosses_back : (x : ℕ) {y z : ℕ} → Crosses m i xs y z → Crosses m i xs (m.partner i y) x → Crosses m i xs (m.partner i z) x
   crosses_back x (out q) b = b
   crosses_back x (on {x = y} p o) b =
-      let y' = m.partner (i + 1) y in
-      crosses_back x o (subst (λ w. Crosses m i xs w x) (sym (law.back i y')) (on (above y p) (subst (λ w. Crosses m i xs (m.partner i w) x) (sym (law.back (i + 1) y)) b)))
-
-  beside_on : {x y : ℕ} → Crosses m i xs x y → In xs (m.partner i x) → In xs (m.partner i y)
-  beside_on (out q) b = b
-  beside_on (on {x} p o) b = beside_on o (subst (In xs) (sym (law.back i (m.partner (i + 1) x))) (above x p))
+      crosses_back x o (rw (law.back i (m.partner (i + 1) y)) (on (above y p) (rw (← law.back (i + 1) y) at b)))
 
   -- a walk that was on the list comes out of it
   pub crosses_beside : {x y : ℕ} → In xs x → Crosses m i xs x y → In xs (m.partner i y)
   crosses_beside p (out q) = absurd (q p)
-  crosses_beside p (on {x} q o) = beside_on o (subst (In xs) (sym (law.back i (m.partner (i + 1) x))) (above x q))
+  crosses_beside p (on {x} q (out r)) = rw (law.back i (m.partner (i + 1) x)) (above x q)
+  crosses_beside p (on q (on r o)) = crosses_beside r (on r o)
 
   -- what the walk from x has met so far is on the list
   abbrev Met : ℕ → ℕ → Type 0
@@ -60,7 +54,7 @@ module _ {m : Map} (law : Partners m) {i : ℕ} {xs : List ℕ} (cell : Celled m
     onward_apart : (k l : ℕ) → k < l → Met x l → onward m i x k ≡ onward m i x l → ⊥
     onward_apart k zero h met e = omega arith
     onward_apart zero (suc l) h met e =
-        off (subst (In xs) (sym (law.back i _) ∙ ap (m.partner i) (sym e) ∙ law.back i x) (above _ (met l (omega arith))))
+        off (rw (sym (law.back i x) ∙ ap (m.partner i) e ∙ law.back i _) (above _ (met l (omega arith))))
     onward_apart (suc k) (suc l) h met e =
         onward_apart k l (omega arith) (λ n b. met n (omega arith))
         (sym (law.back (i + 1) _) ∙ ap (m.partner (i + 1)) (sym (law.back i _) ∙ ap (m.partner i) e ∙ law.back i _) ∙ law.back (i + 1) _)
@@ -78,12 +72,12 @@ module _ {m : Map} (law : Partners m) {i : ℕ} {xs : List ℕ} (cell : Celled m
       trail_more p z e =
           record {
             here = e ∙ ap (λ w. m.partner i (m.partner (i + 1) w)) s.here ∙ ap (onward m i x) (sym (add-one k));
-            before = below_more (λ l. In xs (onward m i x l)) k s.before (subst (In xs) s.here p);
+            before = below_more (λ l. In xs (onward m i x l)) k s.before (rw (← s.here) p);
           }
 
       pub trail_out : (In xs y → ⊥) → Lands m i xs x y
-      trail_out q = record { inside = λ p. absurd (off p); outside = λ _. onward_crosses x k s.before (subst (λ w. Crosses m i xs w y) s.here (out q)) }
+      trail_out q = record { inside = λ p. absurd (off p); outside = λ _. onward_crosses x k s.before (rw (← s.here) (out q)) }
 
       -- a walk that has taken as many steps as the list has tuples is out
       pub trail_end : length xs ≤ k → Lands m i xs x y
-      trail_end h = trail_out (λ p. onward_room (λ l b. below_more (λ v. In xs (onward m i x v)) k s.before (subst (In xs) s.here p) l (omega arith)))
+      trail_end h = trail_out (λ p. onward_room (λ l b. below_more (λ v. In xs (onward m i x v)) k s.before (rw (← s.here) p) l (omega arith)))

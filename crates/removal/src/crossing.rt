@@ -23,7 +23,7 @@ impl<'a, C: GMap> Crossing<'a, C> {
     // Whether slot x is in the cell.
     fn has(&self, x: u16) -> bool
         requires { x < (C.Reads.meaning self.now.map.now).size }
-        ensures { MatchBool result (In self.now.members.now x) (In self.now.members.now x → ⊥) }
+        ensures { let is_in = In self.now.members.now x in MatchBool result is_in (is_in → ⊥) }
     {
         let rank = self.ranks[x as usize] as usize;
         rank < self.members.len() && self.members[rank] == x
@@ -31,7 +31,7 @@ impl<'a, C: GMap> Crossing<'a, C> {
 
     // Whether the two switches above i lead from some tuple of the cell to different tuples in their two orders.
     pub fn twisted(&self) -> bool
-        ensures { MatchBool result (Twists (C.Reads.meaning self.now.map.now) self.now.i self.now.members.now) (Twists (C.Reads.meaning self.now.map.now) self.now.i self.now.members.now → ⊥) }
+        ensures { let twists = Twists (C.Reads.meaning self.now.map.now) self.now.i self.now.members.now in MatchBool result twists (twists → ⊥) }
     {
         if self.i + 2 > self.map.top() {
             return false;
@@ -63,19 +63,19 @@ impl<'a, C: GMap> Crossing<'a, C> {
         y.slot
     }
 
-    // Lists the tuples beside the cell whose walks lead to others, and writes to `ends` where.
+    // Lists the tuples beside the cell whose walks lead to others, and writes to `ends` where each leads.
     pub fn bridge<'b>(&self, borders: &'b mut [u16], ends: &mut [u16]) -> &'b [u16]
         requires borders { (C.Reads.meaning self.now.map.now).size ≤ length borders.old }
         requires ends { (C.Reads.meaning self.now.map.now).size ≤ length ends.old }
-        ensures { Bridged (C.Reads.meaning self.now.map.now) self.now.i self.now.members.now (length self.now.members.now) (length result.now) result.now ends.new }
+        ensures { let xs = self.now.members.now in Bridged (C.Reads.meaning self.now.map.now) self.now.i xs (length xs) (length result.now) result.now ends.new }
     {
         let mut count = 0;
         for a in self.members {
-            let x = Tuple {
+            let inside = Tuple {
                 map: self.map,
                 slot: *a,
-            }
-            .partner(self.i);
+            };
+            let x = inside.partner(self.i);
             let y = self.walk(&x);
             if x.slot != y {
                 borders[count] = x.slot;

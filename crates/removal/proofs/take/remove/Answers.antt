@@ -1,9 +1,5 @@
-use Rattle.std.proofs.Common.{◌*◌, ◌<◌, ◌≤◌, length, take, refl, ◌∙◌, inl, inr, arith}
-use Rattle.gmap.specs.Map.{Same}
-use Rattle.gmap.specs.Removing.{remove_checks}
-use Rattle.gmap.proofs.Outcomes.{accepted}
+use Rattle.std.proofs.Common.{arith, rules}
 use Rattle.gmap.proofs.Same.{same_refl}
-use Rattle.removal.specs.Stages.{Celled}
 use Rattle.removal.proofs.Fronts.{front_celled, front_ranks, front_twist, twist_front, removed}
 use Rattle.removal.proofs.take.remove.Goals as goal
 
@@ -19,10 +15,12 @@ invariant_of-crossing g c =
 
 pub returns-then-twisted-clause-outcome : goal.returns-then-twisted-clause-outcome
 returns-then-twisted-clause-outcome g c =
-    let (passed, ranked) = c.in_ok-count.ensures in
-    (inr ((λ h. omega (arith, h, c.if-scratch-size.false, c.size-size.ensures)), inr ((λ h. omega (arith, h, c.top.ensures, c.if-i-top.false)), inr (passed.1.0, inr (passed.1.1.0, inl (front_twist ranked c.if-twisted.ensures, refl))))), same_refl _)
+    let twist = front_twist c.in_ok-count.ensures.1 c.if-twisted.ensures in
+    let same = same_refl (g.B.Reads.meaning c.args.board.now) in
+    search rules
 
 pub returns-clause-outcome : goal.returns-clause-outcome
 returns-clause-outcome g c =
-    let (passed, ranked) = c.in_ok-count.ensures in
-    (((λ h. omega (arith, h, c.if-scratch-size.false, c.size-size.ensures)), ((λ h. omega (arith, h, c.top.ensures, c.if-i-top.false)), (passed.1.0, (passed.1.1.0, ((λ w. c.if-twisted.ensures (twist_front ranked w)), tt))))), removed ranked c.in_ok-take_out.ensures)
+    let twist = twist_front c.in_ok-count.ensures.1 in
+    let gone = removed c.in_ok-count.ensures.1 c.in_ok-take_out.ensures in
+    search rules

@@ -1,5 +1,4 @@
 use Rattle.std.proofs.Common.{◌<◌, arith, rules}
-use Rattle.gmap.proofs.Looks.{partner_inside}
 use Rattle.removal.proofs.Bridging.{bridged_skip, bridged_more, bridged_front}
 use Rattle.removal.proofs.crossing.Crossing.bridge.Goals as goal
 use Rattle.removal.proofs.crossing.Crossing.bridge.Goals.{then-x-y, else-x-y}
@@ -10,8 +9,9 @@ loop-a-preserved g c =
     let law = g.met.C.GMap.partners cell.map.now in
     let slot : c.partner-x.result.slot < (g.C.Reads.meaning cell.map.now).size = search rules in
     elim c.if-x-y.branch [
-    then-x-y w ↦ rw (w.count-is, w.borders-is, w.ends-is) (bridged_more law (omega arith) c.loop-a.invariant c.partner-x.ensures.slot c.walk-y.ensures w.if-x-y.true (omega (arith, c.loop-a.invariant.few, cell.celled.few)) (omega (arith, slot))) |
-    else-x-y w ↦ rw (w.count-is, w.borders-is, w.ends-is) (bridged_skip law (omega arith) c.loop-a.invariant c.partner-x.ensures.slot c.walk-y.ensures w.if-x-y.false) ]
+      | then-x-y w ↦ rw (w.count-is, w.borders-is, w.ends-is) (bridged_more law (omega arith) c.loop-a.invariant c.partner-x.ensures.slot c.walk-y.ensures w.if-x-y.true (omega (arith, c.loop-a.invariant.few, cell.celled.few)) (omega (arith, slot)))
+      | else-x-y w ↦ rw (w.count-is, w.borders-is, w.ends-is) (bridged_skip law (omega arith) c.loop-a.invariant c.partner-x.ensures.slot c.walk-y.ensures w.if-x-y.false)
+    ]
 
 pub returns : goal.returns
 returns g c = bridged_front (omega arith) (omega (arith, c.loop-a.invariant.few, c.args.self.now.celled.few)) c.loop-a.invariant
