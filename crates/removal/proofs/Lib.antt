@@ -1,6 +1,6 @@
 -- Lemmas of a removal.
-pub mod Crossing
+pub mod Walks
 pub mod Bridging
-pub mod Clearing
+pub mod Cutting
 pub mod Taking
 pub mod Fronts

@@ -1,15 +1,14 @@
 -- The stages of a removal: the cell as a list, its borders with the ends of their walks, and the maps that are left.
 --   Ranks     ranks has at each tuple of a list its place there
---   Celled    a list has tuples that all switches but i keep together
+--   Celled    a list has different tuples that all switches but i keep together
 --   Twists    the two switches above i do not commute at some tuple of a list
 --   Bridge    a tuple beside a list, and another that the walk from it leads to
---   Noted     two tuples are noted as such, unless they are one
 --   Bridged   all such tuples are found, and where each leads
 --   CutBelow  all links at a set are cut in the switches below a number
 --   Closable  the tuples of a list are different, and free in every switch
 --   Closed    the slots of a set are vacant, and nothing else is changed
 --   TakenOut  the slots of a list are vacant, and the tuples around them are partners across it
-use Rattle.std.specs.Prelude.{◌≡◌, ℕ, ◌+◌, ◌<◌, ◌≤◌, true, false, ◌⊎◌, List, length, ◌≢◌, slice_index, slice_set}
+use Rattle.std.specs.Prelude.{◌≡◌, ℕ, ◌+◌, ◌<◌, ◌≤◌, true, false, ◌⊎◌, List, length, ◌≢◌, slice_index}
 use Rattle.gmap.specs.Map.{Map, Free}
 use Rattle.gmap.specs.Building.{Meets}
 use Rattle.gmap.specs.Listing.{Among}
@@ -19,13 +18,12 @@ use Rattle.removal.specs.Crossing.{In, Crosses}
 abbrev pub Ranks : List ℕ → List ℕ → Type 0
 Ranks xs ranks = (k : ℕ) → k < length xs → slice_index ranks (slice_index xs k) ≡ k
 
-pub record Celled (m : Map) (i : ℕ) (xs ranks : List ℕ) : Type 0 where
+pub record Celled (m : Map) (i : ℕ) (xs : List ℕ) : Type 0 where
   pub switch : i < m.top
   pub few : length xs ≤ m.size
-  pub deep : m.size ≤ length ranks
   pub live : (k : ℕ) → k < length xs → m.live (slice_index xs k) ≡ true
-  pub rank : Ranks xs ranks
-  pub closed : (j x : ℕ) → (j ≢ i) → In xs x → In xs (m.partner j x)
+  pub apart : (k l : ℕ) → k < l → l < length xs → slice_index xs k ≢ slice_index xs l
+  pub closed : (j x : ℕ) → (j ≢ i) → (In xs x → ⊥) → In xs (m.partner j x) → ⊥
 
 abbrev pub Twists : Map → ℕ → List ℕ → Type 0
 Twists m i xs = (i + 2 ≤ m.top) × ((x : ℕ) × In xs x × (Commute m (i + 1) (i + 2) x → ⊥))
@@ -36,11 +34,6 @@ pub record Bridge (m : Map) (i : ℕ) (xs : List ℕ) (x y : ℕ) : Type 0 where
   pub beside : In xs (m.partner i x)
   pub apart : x ≡ y → ⊥
   pub leads : Crosses m i xs (m.partner i x) y
-
--- of two different tuples, the first comes behind the n in front of bs, and ends has the second at it; n' counts what is there then
-pub record Noted (x y n n' : ℕ) (bs bs' ends ends' : List ℕ) : Type 0 where
-  pub one : x ≡ y → (n' ≡ n) × (bs' ≡ bs) × (ends' ≡ ends)
-  pub two : (x ≢ y) → (n' ≡ n + 1) × (bs' ≡ slice_set bs n x) × (ends' ≡ slice_set ends x y)
 
 -- of the tuples beside the first k of xs, the n that have a bridge stand in front of bs, and ends has the other side of each
 pub record Bridged (m : Map) (i : ℕ) (xs : List ℕ) (k n : ℕ) (bs ends : List ℕ) : Type 0 where
@@ -68,8 +61,7 @@ pub record Closed (m : Map) (P : ℕ → Type 0) (m' : Map) : Type 0 where
   pub stays : (x : ℕ) → (P x → ⊥) → m'.live x ≡ m.live x
   pub partner : (j x : ℕ) → m'.partner j x ≡ m.partner j x
 
--- n is the length of the list
-pub record TakenOut (m : Map) (i : ℕ) (xs : List ℕ) (n : ℕ) (m' : Map) : Type 0 where
+pub record TakenOut (m : Map) (i : ℕ) (xs : List ℕ) (m' : Map) : Type 0 where
   pub size : m'.size ≡ m.size
   pub top : m'.top ≡ m.top
   pub gone : (x : ℕ) → In xs x → m'.live x ≡ false
@@ -77,4 +69,3 @@ pub record TakenOut (m : Map) (i : ℕ) (xs : List ℕ) (n : ℕ) (m' : Map) : T
   pub stays : (x : ℕ) → (In xs x → ⊥) → m'.live x ≡ m.live x
   pub others : (j x : ℕ) → (j ≢ i) → (In xs x → ⊥) → m'.partner j x ≡ m.partner j x
   pub across : (x : ℕ) → (In xs x → ⊥) → Crosses m i xs (m.partner i x) (m'.partner i x)
-  pub count : n ≡ length xs

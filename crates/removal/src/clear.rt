@@ -19,15 +19,13 @@ pub fn cut_off<B: GMapMut>(board: &mut B, list: &[u16]) -> Result<(), Refusal>
     Ok(())
 }
 
-// Makes the slots of a list vacant, and answers how many they are.
-pub fn close_all<B: GMapMut>(board: &mut B, list: &[u16]) -> Result<u16, Refusal>
+// Makes the slots of a list vacant.
+pub fn close_all<B: GMapMut>(board: &mut B, list: &[u16]) -> Result<(), Refusal>
     requires { Closable (B.Reads.meaning board.old) list.now }
-    ensures { MatchResult result (λ n. Closed (B.Reads.meaning board.old) (In list.now) (B.Reads.meaning board.new) × (n ≡ length list.now)) (λ _. ⊥) }
+    ensures { MatchResult result (λ _. Closed (B.Reads.meaning board.old) (In list.now) (B.Reads.meaning board.new)) (λ _. ⊥) }
 {
-    let mut closed = 0;
-    for k in 0..list.len() {
-        board.close_slot(list[k])?;
-        closed += 1;
+    for x in list {
+        board.close_slot(*x)?;
     }
-    Ok(closed)
+    Ok(())
 }

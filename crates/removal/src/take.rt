@@ -1,14 +1,14 @@
 // Taking a cell out of a map.
-ghost use Rattle.std.specs.Prelude.{◌≡◌, ◌*◌, ◌<◌, ◌≤◌, length, MatchResult};
+ghost use Rattle.std.specs.Prelude.{◌≡◌, ◌*◌, ◌<◌, length, MatchResult};
 ghost use Rattle.building.specs.Tying.{PairsOf, Tieable};
 ghost use Rattle.gmap.specs.Building.{AllTied};
 ghost use Rattle.gmap.specs.Map.{Same};
 ghost use Rattle.gmap.specs.Outcome.{Outcome};
 ghost use Rattle.gmap.specs.Removing.{remove_checks, Removed};
-ghost use Rattle.removal.specs.Stages.{Celled, TakenOut};
+ghost use Rattle.removal.specs.Stages.{Celled, Bridged, TakenOut};
 
-use crate::border::{bridge, twisted};
 use crate::clear::{close_all, cut_off};
+use crate::crossing::Crossing;
 use building::tie_pairs;
 use gmap::map::GMapMut;
 use gmap::refusal::Refusal;
@@ -19,36 +19,32 @@ fn tie_ends<B: GMapMut>(
     board: &mut B,
     i: u16,
     borders: &[u16],
-    count: u16,
     ends: &[u16],
 ) -> Result<u16, Refusal>
-    requires { 0 < count → Tieable (B.Reads.meaning board.old) i borders.now count ends.now }
-    ensures { MatchResult result (λ n. AllTied (B.Reads.meaning board.old) i (PairsOf borders.now count ends.now) n (B.Reads.meaning board.new)) (λ _. ⊥) }
+    requires { 0 < length borders.now → Tieable (B.Reads.meaning board.old) i borders.now (length borders.now) ends.now }
+    ensures { MatchResult result (λ n. AllTied (B.Reads.meaning board.old) i (PairsOf borders.now (length borders.now) ends.now) n (B.Reads.meaning board.new)) (λ _. ⊥) }
 {
-    if count == 0 {
+    if borders.is_empty() {
         return Ok(0);
     }
-    tie_pairs(board, i, borders, count, ends)
+    tie_pairs(board, i, borders, ends)
 }
 
-// Takes the tuples of a cell out, ties each tuple beside it to the one that its walk across the cell leads to, and answers how many tuples the cell had.
-// The walks are made first, since they go along the links at the cell.
+// Takes the tuples of a cell out, and ties each tuple beside it to the one that its walk across the cell leads to.
 fn take_out<B: GMapMut>(
     board: &mut B,
     i: u16,
     members: &[u16],
-    ranks: &[u16],
-    borders: &mut [u16],
-    ends: &mut [u16],
-) -> Result<u16, Refusal>
-    requires cell { Celled (B.Reads.meaning board.old) i members.now ranks.now }
-    requires borders { (B.Reads.meaning board.old).size ≤ length borders.old }
-    requires ends { length ends.old ≡ (B.Reads.meaning board.old).size }
-    ensures { MatchResult result (λ n. TakenOut (B.Reads.meaning board.old) i members.now n (B.Reads.meaning board.new)) (λ _. ⊥) }
+    borders: &[u16],
+    ends: &[u16],
+) -> Result<(), Refusal>
+    requires cell { Celled (B.Reads.meaning board.old) i members.now }
+    requires bridges { Bridged (B.Reads.meaning board.old) i members.now (length members.now) (length borders.now) borders.now ends.now }
+    requires ends { length ends.now ≡ (B.Reads.meaning board.old).size }
+    ensures { MatchResult result (λ _. TakenOut (B.Reads.meaning board.old) i members.now (B.Reads.meaning board.new)) (λ _. ⊥) }
 {
-    let count = bridge(board, i, members, ranks, borders, ends);
     cut_off(board, members)?;
-    tie_ends(board, i, borders, count, ends)?;
+    tie_ends(board, i, borders, ends)?;
     close_all(board, members)
 }
 
@@ -74,9 +70,17 @@ pub fn remove<B: GMapMut>(
     let (ranks, rest) = rest.split_at_mut(size);
     let (ends, borders) = rest.split_at_mut(size);
     let count = cell(board, i, t, list, ranks, borders)?;
-    let members = &list[0..count as usize];
-    if twisted(board, i, members) {
+    let members = &list[..count as usize];
+    let crossing = Crossing {
+        map: board,
+        i,
+        members,
+        ranks,
+    };
+    if crossing.twisted() {
         return Err(Refusal::Twisted);
     }
-    take_out(board, i, members, ranks, borders, ends)
+    let borders = crossing.bridge(borders, ends);
+    take_out(board, i, members, borders, ends)?;
+    Ok(count)
 }
