@@ -40,15 +40,15 @@ module _ (m : Map) (t n : ℕ) (xs ranks : List ℕ) (r : Ranked (Cell m 1 t) n 
     pub taken_none : Vacancies m f n → Taken m t f → ⊥
     taken_none vacant (x, x', b, d) =
         let (k, h, p, v) = beside_place x x' b in
-        let (low, gone) = vacant k h in
+        let (low, gone) = vacant (f + k) (omega arith) (omega arith) in
         ⊎_elim (λ c. omega arith) (λ c. both_ways (m.live (f + k)) gone (ap m.live (sym v) ∙ c)) d
 
     -- the new numbers are those of slots
     pub all_fit : Partners m → Vacancies m f n → f + n ≤ 4096
-    all_fit law vacant = let (k, h, e) = r.all t here in omega (arith, vacant (n - 1) (omega arith), law.few)
+    all_fit law vacant = let (k, h, e) = r.all t here in omega (arith, vacant (f + n - 1) (omega arith) (omega arith), law.few)
 
-    pub taken_some : (k : ℕ) → k < n → (m.size ≤ f + k) ⊎ (m.live (f + k) ≡ true) → Taken m t f
-    taken_some k h d = (get_or xs k 0, f + k, beside_at k h, d)
+    pub taken_some : (x : ℕ) → f ≤ x → x < f + n → (m.size ≤ x) ⊎ (m.live x ≡ true) → Taken m t f
+    taken_some x le lt d = (get_or xs (x - f) 0, x, subst (Beside m t f _) (omega arith) (beside_at (x - f) (omega arith)), d)
 
 -- what stands in front of a list, as a list of its own
 module _ (P : ℕ → Type 0) (n : ℕ) (xs ranks : List ℕ) (r : Ranked P n xs ranks) where

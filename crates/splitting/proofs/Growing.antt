@@ -1,16 +1,15 @@
 -- The stages of a split, put together.
-use Rattle.std.proofs.Common.{◌≡◌, ℕ, ◌+◌, ◌<◌, ◌≤◌, sym, refl, ap, ◌∙◌, slice_index, inl, inr, ⊎_elim, arith}
-use Rattle.std.proofs.lemmas.Bool.{both_ways}
+use Rattle.std.proofs.Common.{◌≡◌, ℕ, ◌+◌, ◌<◌, sym, ap, ◌∙◌, slice_index, ⊎_elim, arith}
+use Rattle.std.proofs.lemmas.Bool.{both_ways, cases_eq}
 use Rattle.gmap.specs.Map.{Map, Partners, Free}
 use Rattle.splitting.specs.Edges.{under, count, member, place, Closed, Vacancies, Seated, Tieable}
-use Rattle.splitting.specs.Stages.{Opened, AllNewLinks, Ends, Grown}
-use Rattle.splitting.specs.Wired.{Wired}
+use Rattle.splitting.specs.Stages.{Opened, AllLinked, Ended, Grown}
 use Rattle.splitting.specs.declared.edge.Edge.{Edge}
-use Rattle.splitting.proofs.Places.{seated_kept}
+use Rattle.splitting.proofs.Linking.{all_seated}
 
 module _ (m : Map) (law : Partners m) (edge : Edge) (closed : Closed m edge) (vacant : Vacancies m edge.first (count edge)) (opened : Map) (s : Opened edge.first (count edge) m opened) where
   new : (k l : ℕ) → k < count edge → l < count edge → member edge k ≡ edge.first + l → ⊥
-  new k l h c e = both_ways (m.live (edge.first + l)) (vacant l c).1 (ap m.live (sym e) ∙ closed.live k h)
+  new k l h c e = both_ways (m.live (edge.first + l)) (vacant (edge.first + l) (omega arith) (omega arith)).1 (ap m.live (sym e) ∙ closed.live k h)
 
   pub seated : Seated opened edge
   seated =
@@ -24,32 +23,25 @@ module _ (m : Map) (law : Partners m) (edge : Edge) (closed : Closed m edge) (va
       }
 
   pub seated_free : (i k : ℕ) → k < count edge → Free opened i (edge.first + k)
-  seated_free i k h = s.partner i (edge.first + k) ∙ law.still i (edge.first + k) (vacant k h).1
+  seated_free i k h = s.partner i (edge.first + k) ∙ law.still i (edge.first + k) (vacant (edge.first + k) (omega arith) (omega arith)).1
 
-  module _ (linked : Map) (w : Wired (AllNewLinks opened edge (opened.top + 1)) opened linked) where
+  module _ (linked : Map) (w : AllLinked opened edge (opened.top + 1) linked) where
     pub tieable : Tieable linked edge
-    tieable =
-        record {
-          seated = seated_kept opened edge seated _ linked w (λ i a b (o, u, (l, h, p, v)). (l, h, p));
-          free = λ k h. w.rest 0 (edge.first + k) (λ b (o, u, d). omega arith) ∙ seated_free 0 k h;
-        }
+    tieable = record { seated = all_seated opened edge seated (opened.top + 1) (omega arith) linked w; free = λ k h. w.rest 0 (edge.first + k) (λ o u l c e. omega arith) ∙ seated_free 0 k h }
 
-    pub grown : (next : Map) → Wired (Ends linked edge (count edge)) linked next → Grown edge m next
+    pub grown : (next : Map) → Ended linked edge (count edge) next → Grown edge m next
     grown next v =
         let places : (i l : ℕ) → place opened edge i l ≡ place m edge i l = λ i l. ap (λ y. slice_index edge.ranks.now y) (s.partner i (member edge l)) in
         record {
-          size = v.size ∙ w.size ∙ s.size;
-          top = v.top ∙ w.top ∙ s.top;
-          born = λ l h. v.live (edge.first + l) ∙ w.live (edge.first + l) ∙ s.born l h;
-          as_live = λ y q. v.live y ∙ w.live y ∙ s.as_live y q;
-          ends = λ l h. v.ties 0 (member edge l) (edge.first + l) (refl, inl (l, h, refl, refl));
-          back = λ l h. v.ties 0 (edge.first + l) (member edge l) (refl, inr (inl (l, h, refl, refl)));
-          links = λ j l o u h. v.rest j (edge.first + l) (λ b (e, t). omega arith) ∙ w.ties j (edge.first + l) _ (o, omega (arith, s.top), (l, h, refl, refl)) ∙ ap (λ z. edge.first + z) (places (under j) l);
+          size = v.frame.size ∙ w.size ∙ s.size;
+          top = v.frame.top ∙ w.top ∙ s.top;
+          born = λ l h. v.frame.live _ ∙ w.live _ ∙ s.born l h;
+          as_live = λ y q. v.frame.live y ∙ w.live y ∙ s.as_live y q;
+          ends = v.ends;
+          back = v.back;
+          links = λ j l o u h. v.frame.others j _ (λ e. omega arith) ∙ w.links j l o (omega (arith, s.top)) h ∙ ap (λ z. edge.first + z) (places (under j) l);
           others = λ j y off fresh.
-              v.rest j y (λ b (e, t). ⊎_elim
-              (λ (l, h, p, z). off e (l, h, sym p))
-              (⊎_elim (λ (l, h, p, z). fresh l h p) (λ (l, h, c, p, o, z). omega arith))
-              t)
-              ∙ w.rest j y (λ b (o, u, (l, h, p, z)). fresh l h p)
+              ⊎_elim (λ e. rw e (v.rest y (off e) fresh)) (λ e. v.frame.others j y e) (cases_eq j 0)
+              ∙ w.rest j y (λ o u. fresh)
               ∙ s.partner j y;
         }

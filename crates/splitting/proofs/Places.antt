@@ -1,9 +1,8 @@
 -- The places of the partners of an edge's tuples.
-use Rattle.std.proofs.Common.{◌≡◌, ℕ, ◌+◌, ◌<◌, ◌≤◌, eqb, slice_index, sym, ap, ◌∙◌, ⊎_elim, arith}
+use Rattle.std.proofs.Common.{◌≡◌, ℕ, ◌<◌, eqb, slice_index, sym, ap, ◌∙◌, ⊎_elim, arith}
 use Rattle.std.proofs.lemmas.Bool.{cases_eq, eq-eqb, ne_eqb, cond-true, cond-false}
 use Rattle.gmap.specs.Map.{Map, Partners}
 use Rattle.splitting.specs.Edges.{under, count, member, place, Closed, Seated}
-use Rattle.splitting.specs.Wired.{Wired}
 use Rattle.splitting.specs.declared.edge.Edge.{Edge}
 
 pub under_one : (j : ℕ) → j ≡ 1 → under j ≡ 0
@@ -15,9 +14,6 @@ under_other j e = cond-false (eqb j 1) 0 j (ne_eqb j 1 e)
 -- no switch of the new vertex mirrors switch 1
 pub under_off : (j : ℕ) → under j ≡ 1 → ⊥
 under_off j h = ⊎_elim (λ e. omega (arith, under_one j e)) (λ e. e (sym (under_other j e) ∙ h)) (cases_eq j 1)
-
-pub under_low : (j : ℕ) → under j ≤ j
-under_low j = ⊎_elim (λ e. omega (arith, under_one j e)) (λ e. omega (arith, under_other j e)) (cases_eq j 1)
 
 -- the tuples of an edge are different
 pub same_place : (edge : Edge) (k l : ℕ) → k < count edge → l < count edge → member edge k ≡ member edge l → k ≡ l
@@ -38,21 +34,18 @@ pub place_back : (m : Map) (edge : Edge) → Partners m → Closed m edge → (i
 place_back m edge law closed i on k h =
     place_of m edge closed i on (place m edge i k) (place_low m edge closed i on k h) k h (sym (law.back i (member edge k)) ∙ ap (m.partner i) (sym (place_is m edge closed i on k h)))
 
--- where only new tuples have new partners, the edge is as it was
-module _ (m : Map) (edge : Edge) (s : Seated m edge) (R : ℕ → ℕ → ℕ → Type 0) (now : Map) (w : Wired R m now) (only : (i a b : ℕ) → R i a b → (l : ℕ) × (l < count edge) × (a ≡ edge.first + l)) where
-  pub old_partner : (i k : ℕ) → k < count edge → now.partner i (member edge k) ≡ m.partner i (member edge k)
-  old_partner i k h = w.rest i (member edge k) (λ b r. let (l, c, e) = only i _ b r in s.new k l h c e)
-
-  pub old_place : (i k : ℕ) → k < count edge → place now edge i k ≡ place m edge i k
-  old_place i k h = ap (λ x. slice_index edge.ranks.now x) (old_partner i k h)
-
+-- where the tuples of the edge have their partners still, a step later
+module _ (m : Map) (edge : Edge) (s : Seated m edge) (now : Map) (live : (t : ℕ) → now.live t ≡ m.live t) (old : (i k : ℕ) → k < count edge → now.partner i (member edge k) ≡ m.partner i (member edge k)) where
   pub seated_kept : Seated now edge
   seated_kept =
       record {
         closed = record {
-          live = λ k h. w.live _ ∙ s.closed.live k h;
-          closed = λ i k on h. let (l, b, e) = s.closed.closed i k on h in (l, b, e ∙ sym (old_partner i k h));
+          live = λ k h. live _ ∙ s.closed.live k h;
+          closed = λ i k on h. let (l, b, e) = s.closed.closed i k on h in (l, b, e ∙ sym (old i k h));
         };
-        born = λ k h. w.live _ ∙ s.born k h;
+        born = λ k h. live _ ∙ s.born k h;
         new = s.new;
       }
+
+  pub old_place : (i k : ℕ) → k < count edge → place now edge i k ≡ place m edge i k
+  old_place i k h = ap (λ x. slice_index edge.ranks.now x) (old i k h)

@@ -4,7 +4,7 @@
 --   member       the one at a place
 --   place        where the partner of the tuple at a place stands
 --   Closed       the edge's tuples are there, and their partners in all switches but 1 are among them
---   Vacancies    slots that follow one another are there, and vacant
+--   Vacancies    the slots from a number on, as many as are wanted, are there, and vacant
 --   Seated       the new tuples are there, beside those of the edge
 --   Linkable     they are free in a switch above 0
 --   Tieable      they are free in switch 0
@@ -32,7 +32,7 @@ pub record Closed (m : Map) (e : Edge) : Type 0 where
   pub closed : (i k : ℕ) → (i ≢ 1) → k < count e → Among e.members.now (count e) (m.partner i (member e k))
 
 abbrev pub Vacancies : Map → ℕ → ℕ → Type 0
-Vacancies m f n = (k : ℕ) → k < n → (f + k < m.size) × (m.live (f + k) ≡ false)
+Vacancies m f n = (x : ℕ) → f ≤ x → x < f + n → (x < m.size) × (m.live x ≡ false)
 
 pub record Seated (m : Map) (e : Edge) : Type 0 where
   pub closed : Closed m e

@@ -2,8 +2,7 @@
 ghost use Rattle.std.specs.Prelude.{◌≡◌, ℕ, ◌+◌, ◌<◌, MatchResult};
 ghost use Rattle.gmap.specs.Map.{Free};
 ghost use Rattle.splitting.specs.Edges.{under, count, Seated, Linkable};
-ghost use Rattle.splitting.specs.Stages.{NewLinks, AllNewLinks};
-ghost use Rattle.splitting.specs.Wired.{Wired};
+ghost use Rattle.splitting.specs.Stages.{Linked, AllLinked};
 
 use crate::edge::Edge;
 use gmap::map::GMapMut;
@@ -20,7 +19,7 @@ fn mirrored(j: u16) -> u16
 // Each link is tied from its lower end.
 fn link_new<B: GMapMut>(board: &mut B, j: u16, edge: &Edge) -> Result<(), Refusal>
     requires { Linkable (B.Reads.meaning board.old) j edge.now }
-    ensures { MatchResult result (λ _. Wired (NewLinks (B.Reads.meaning board.old) j edge.now (count edge.now)) (B.Reads.meaning board.old) (B.Reads.meaning board.new)) (λ _. ⊥) }
+    ensures { MatchResult result (λ _. Linked (B.Reads.meaning board.old) j edge.now (count edge.now) (B.Reads.meaning board.new)) (λ _. ⊥) }
 {
     let switch = mirrored(j);
     for x in edge.members {
@@ -38,7 +37,7 @@ fn link_new<B: GMapMut>(board: &mut B, j: u16, edge: &Edge) -> Result<(), Refusa
 pub fn link_all<B: GMapMut>(board: &mut B, edge: &Edge) -> Result<(), Refusal>
     requires seated { Seated (B.Reads.meaning board.old) edge.now }
     requires free { (i k : ℕ) → k < count edge.now → Free (B.Reads.meaning board.old) i (edge.now.first + k) }
-    ensures { MatchResult result (λ _. Wired (AllNewLinks (B.Reads.meaning board.old) edge.now ((B.Reads.meaning board.old).top + 1)) (B.Reads.meaning board.old) (B.Reads.meaning board.new)) (λ _. ⊥) }
+    ensures { MatchResult result (λ _. AllLinked (B.Reads.meaning board.old) edge.now ((B.Reads.meaning board.old).top + 1) (B.Reads.meaning board.new)) (λ _. ⊥) }
 {
     for j in 1..board.top() + 1 {
         link_new(board, j, edge)?;

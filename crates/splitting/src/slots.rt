@@ -9,7 +9,7 @@ use gmap::refusal::Refusal;
 
 // Whether the slots from f on, as many as are wanted, are there and vacant.
 pub fn all_vacant<C: GMap>(map: &C, f: u16, wanted: u16) -> bool
-    ensures { MatchBool result (Vacancies (C.Reads.meaning map.now) f wanted) ((k : ℕ) × (k < wanted) × (((C.Reads.meaning map.now).size ≤ f + k) ⊎ ((C.Reads.meaning map.now).live (f + k) ≡ true))) }
+    ensures { MatchBool result (Vacancies (C.Reads.meaning map.now) f wanted) ((x : ℕ) × (f ≤ x) × (x < f + wanted) × (((C.Reads.meaning map.now).size ≤ x) ⊎ ((C.Reads.meaning map.now).live x ≡ true))) }
 {
     for x in f as u32..f as u32 + wanted as u32 {
         if x >= map.size() as u32 || map.is_live(x as u16) {

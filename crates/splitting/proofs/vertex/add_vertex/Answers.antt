@@ -1,4 +1,4 @@
-use Rattle.std.proofs.Common.{◌≡◌, ◌≤◌, true, length, subst, rules, arith}
+use Rattle.std.proofs.Common.{◌≡◌, true, subst, rules, arith}
 use Rattle.gmap.specs.Outcome.{Passes}
 use Rattle.gmap.specs.Splitting.{SplitAt}
 use Rattle.gmap.proofs.Orbits.{orbit_live}
@@ -9,8 +9,8 @@ use Rattle.splitting.proofs.vertex.add_vertex.Goals as goal
 pub returns-then-not-all_vacant : goal.returns-then-not-all_vacant
 returns-then-not-all_vacant g c =
     let m = g.B.Reads.meaning c.args.board.now in
-    let (k, h, d) = c.if-not-all_vacant.ensures in
-    let taken = taken_some m c.args.t _ _ _ c.in_ok-count.ensures.1 c.args.f k h d in
+    let (x, le, lt, d) = c.if-not-all_vacant.ensures in
+    let taken = taken_some m c.args.t _ _ _ c.in_ok-count.ensures.1 c.args.f x le lt d in
     search rules
 
 pub invariant_of-edge : goal.invariant_of-edge
@@ -28,7 +28,7 @@ grow-requires g c =
     let law = g.met.B.GMap.partners c.args.board.now in
     let live : m.live c.args.t ≡ true = search rules in
     let r = c.in_ok-count.ensures.1 in
-    record { closed = closed m law c.args.t live _ (front_ranked _ _ _ _ r); vacant = λ k h. c.if-not-all_vacant.ensures k (omega (arith, h, front_long _ _ _ _ r)) }
+    record { closed = closed m law c.args.t live _ (front_ranked _ _ _ _ r); vacant = λ x le lt. c.if-not-all_vacant.ensures x le (omega (arith, lt, front_long _ _ _ _ r)) }
 
 pub returns : goal.returns
 returns g c =
