@@ -1,32 +1,19 @@
 -- The new tuples beside those of an edge, by the places of these in the edge's list.
-use Rattle.std.proofs.Common.{◌≡◌, ℕ, ◌+◌, ◌<◌, ◌≤◌, true, ◌⊎◌, List, length, get_or, sym, refl, ap, ◌∙◌, subst, ⊎_elim, arith}
+use Rattle.std.proofs.Common.{◌≡◌, ℕ, ◌+◌, ◌-◌, ◌<◌, ◌≤◌, true, ◌⊎◌, List, length, get_or, slice_index, take, sym, refl, ap, ◌∙◌, subst, ⊎_elim, arith}
 use Rattle.std.proofs.lemmas.Bool.{both_ways, cases_lt, cases_order}
+use Rattle.std.proofs.lemmas.List.{get_or-take, length-take-le}
 use Rattle.gmap.specs.Map.{Map, Partners}
 use Rattle.gmap.specs.Listing.{Counts, Ranked}
-use Rattle.gmap.specs.Orbits.{Cell, step}
+use Rattle.gmap.specs.Orbits.{Cell, here, step}
 use Rattle.gmap.specs.Splitting.{Beside, Taken, SplitAt}
 use Rattle.gmap.proofs.Orbits.{orbit_live}
-use Rattle.splitting.specs.Edges.{place, Edge, Ranks, Vacancies}
+use Rattle.splitting.specs.Edges.{count, member, place, Closed, Vacancies}
 use Rattle.splitting.specs.Stages.{Grown}
+use Rattle.splitting.specs.declared.edge.Edge.{Edge}
 use Rattle.splitting.proofs.Counts.{counts_single, counts_front}
 use Rattle.splitting.proofs.Places.{under_one, under_other, place_of}
 
-module _ (m : Map) (law : Partners m) (t : ℕ) (live : m.live t ≡ true) (n : ℕ) (xs ranks : List ℕ) (r : Ranked (Cell m 1 t) n xs ranks) where
-  ordered : (k l : ℕ) → k < n → l < n → get_or xs k 0 ≡ get_or xs l 0 → k ≡ l
-  ordered k l h b e = ⊎_elim (λ s. s) (⊎_elim (λ s. absurd (omega (arith, r.rises k l s b))) (λ s. absurd (omega (arith, r.rises l k s h)))) (cases_order k l)
-
-  pub edge : Edge m n xs
-  edge =
-      record {
-        fits = r.fits;
-        live = λ k h. orbit_live m law _ true live (r.only k h);
-        apart = ordered;
-        closed = λ i k on h. r.all (m.partner i (get_or xs k 0)) (step i on (r.only k h));
-      }
-
-  pub edge_ranks : m.size ≤ length ranks → Ranks m n xs ranks
-  edge_ranks deep = record { deep = deep; rank = r.rank }
-
+module _ (m : Map) (t n : ℕ) (xs ranks : List ℕ) (r : Ranked (Cell m 1 t) n xs ranks) where
   apart : (k l : ℕ) → k < l → l < n → get_or xs k 0 ≡ get_or xs l 0 → ⊥
   apart k l h b e = omega (arith, r.rises k l h b)
 
@@ -53,48 +40,86 @@ module _ (m : Map) (law : Partners m) (t : ℕ) (live : m.live t ≡ true) (n : 
     pub taken_none : Vacancies m f n → Taken m t f → ⊥
     taken_none vacant (x, x', b, d) =
         let (k, h, p, v) = beside_place x x' b in
-        let (low, gone) = vacant k h in
+        let (low, gone) = vacant (f + k) (omega arith) (omega arith) in
         ⊎_elim (λ c. omega arith) (λ c. both_ways (m.live (f + k)) gone (ap m.live (sym v) ∙ c)) d
 
-    pub taken_some : (k : ℕ) → k < n → (m.size ≤ f + k) ⊎ (m.live (f + k) ≡ true) → Taken m t f
-    taken_some k h d = (get_or xs k 0, f + k, beside_at k h, d)
+    -- the new numbers are those of slots
+    pub all_fit : Partners m → Vacancies m f n → f + n ≤ 4096
+    all_fit law vacant = let (k, h, e) = r.all t here in omega (arith, vacant (f + n - 1) (omega arith) (omega arith), law.few)
 
-    module _ (some : m.top ≡ 0 → ⊥) (deep : m.size ≤ length ranks) (m' : Map) (law' : Partners m') (s : Grown f n xs ranks m m') where
-      -- the place of the partner of a tuple in a switch other than 1
-      partner_place : (i x x' y' : ℕ) → (i ≡ 1 → ⊥) → Beside m t f x x' → Beside m t f (m.partner i x) y' → (k l : ℕ) × (k < n) × (x' ≡ f + k) × (y' ≡ f + l) × (place m xs ranks i k ≡ l)
-      partner_place i x x' y' on a b =
-          let (k, h, p, v) = beside_place x x' a in
-          let (l, c, q, z) = beside_place (m.partner i x) y' b in
-          (k, l, h, v, z, place_of m n xs ranks edge (edge_ranks deep) i on k h l c (sym q ∙ ap (m.partner i) p))
+    pub taken_some : (x : ℕ) → f ≤ x → x < f + n → (m.size ≤ x) ⊎ (m.live x ≡ true) → Taken m t f
+    taken_some x le lt d = (get_or xs (x - f) 0, x, subst (Beside m t f _) (omega arith) (beside_at (x - f) (omega arith)), d)
 
-      meet : (x x' y' : ℕ) → Beside m t f x x' → Beside m t f (m.partner 0 x) y' → m'.partner 1 x' ≡ y'
-      meet x x' y' a b =
-          let (k, l, h, v, z, e) = partner_place 0 x x' y' (λ o. omega arith) a b in
-          ap (m'.partner 1) v ∙ s.links 1 k (omega arith) (omega arith) h ∙ ap (λ i. f + place m xs ranks i k) (under_one 1 refl) ∙ ap (λ w. f + w) e ∙ sym z
+-- what stands in front of a list, as a list of its own
+module _ (P : ℕ → Type 0) (n : ℕ) (xs ranks : List ℕ) (r : Ranked P n xs ranks) where
+  pub front_long : length (take n xs) ≡ n
+  front_long = length-take-le n xs r.fits
 
-      along : (j x x' y' : ℕ) → 2 ≤ j → Beside m t f x x' → Beside m t f (m.partner j x) y' → m'.partner j x' ≡ y'
-      along j x x' y' o a b =
-          let (k, l, h, v, z, e) = partner_place j x x' y' (λ w. omega arith) a b in
-          ⊎_elim
-          (λ c. let is : k ≡ l = sym ((edge_ranks deep).rank k h) ∙ ap (λ w. get_or ranks w 0) (sym (law.high j (get_or xs k 0) c)) ∙ e in
-          law'.high j x' (omega (arith, s.top)) ∙ v ∙ ap (λ w. f + w) is ∙ sym z)
-          (λ c. ap (m'.partner j) v ∙ s.links j k (omega arith) c h ∙ ap (λ i. f + place m xs ranks i k) (under_other j (λ w. omega arith)) ∙ ap (λ w. f + w) e ∙ sym z)
-          (cases_lt m.top j)
+  pub front_ranked : Ranked P (length (take n xs)) (take n xs) ranks
+  front_ranked =
+      let at : (k : ℕ) → k < n → get_or (take n xs) k 0 ≡ get_or xs k 0 = λ k h. get_or-take n xs k 0 h in
+      rw front_long (record {
+        fits = omega (arith, front_long);
+        rises = λ k l h b. omega (arith, at k (omega arith), at l b, r.rises k l h b);
+        only = λ k h. subst P (sym (at k h)) (r.only k h);
+        all = λ x p. let (k, h, e) = r.all x p in (k, h, at k h ∙ e);
+        rank = λ k h. ap (λ x. get_or ranks x 0) (at k h) ∙ r.rank k h;
+      })
 
-      pub split_at : SplitAt m t f (f, n) m'
-      split_at =
-          record {
-            size = s.size;
-            top = s.top;
-            born = λ x x' b. let (k, h, p, v) = beside_place x x' b in ap m'.live v ∙ s.born k h;
-            as_live = λ y q. s.as_live y (λ l h e. q (get_or xs l 0) (subst (Beside m t f (get_or xs l 0)) (sym e) (beside_at l h)));
-            ends = λ x x' b. let (k, h, p, v) = beside_place x x' b in ap (m'.partner 0) p ∙ s.ends k h ∙ sym v;
-            back = λ x x' b. let (k, h, p, v) = beside_place x x' b in ap (m'.partner 0) v ∙ s.back k h ∙ sym p;
-            meet = meet;
-            along = along;
-            others = λ j y off q. s.others j y
-                (λ e (k, h, p). off e (subst (Cell m 1 t) p (r.only k h)))
-                (λ l h e. q (get_or xs l 0) (subst (Beside m t f (get_or xs l 0)) (sym e) (beside_at l h)));
-            first = refl;
-            count = edge_counts;
-          }
+-- the list of a whole edge
+module _ (m : Map) (law : Partners m) (t : ℕ) (live : m.live t ≡ true) (edge : Edge) (r : Ranked (Cell m 1 t) (count edge) edge.members.now edge.ranks.now) where
+  pub closed : Closed m edge
+  closed =
+      record {
+        live = λ k h. orbit_live m law _ true live (r.only k h);
+        closed = λ i k on h. r.all (m.partner i (member edge k)) (step i on (r.only k h));
+      }
+
+  abbrev Stands : ℕ → ℕ → Type 0
+  Stands = Beside m t edge.first
+
+  stands : (x x' : ℕ) → Stands x x' → (k : ℕ) × (k < count edge) × (x ≡ member edge k) × (x' ≡ edge.first + k)
+  stands = beside_place m t _ _ _ r edge.first
+
+  stand : (k : ℕ) → k < count edge → Stands (member edge k) (edge.first + k)
+  stand = beside_at m t _ _ _ r edge.first
+
+  module _ (some : m.top ≡ 0 → ⊥) (m' : Map) (law' : Partners m') (s : Grown edge m m') where
+    -- the place of the partner of a tuple in a switch other than 1
+    partner_place : (i x x' y' : ℕ) → (i ≡ 1 → ⊥) → Stands x x' → Stands (m.partner i x) y' → (k l : ℕ) × (k < count edge) × (x' ≡ edge.first + k) × (y' ≡ edge.first + l) × (place m edge i k ≡ l)
+    partner_place i x x' y' on a b =
+        let (k, h, p, v) = stands x x' a in
+        let (l, c, q, z) = stands (m.partner i x) y' b in
+        (k, l, h, v, z, place_of m edge closed i on k h l c (sym q ∙ ap (m.partner i) p))
+
+    meet : (x x' y' : ℕ) → Stands x x' → Stands (m.partner 0 x) y' → m'.partner 1 x' ≡ y'
+    meet x x' y' a b =
+        let (k, l, h, v, z, e) = partner_place 0 x x' y' (λ o. omega arith) a b in
+        ap (m'.partner 1) v ∙ s.links 1 k (omega arith) (omega arith) h ∙ ap (λ i. edge.first + place m edge i k) (under_one 1 refl) ∙ ap (λ w. edge.first + w) e ∙ sym z
+
+    along : (j x x' y' : ℕ) → 2 ≤ j → Stands x x' → Stands (m.partner j x) y' → m'.partner j x' ≡ y'
+    along j x x' y' o a b =
+        let (k, l, h, v, z, e) = partner_place j x x' y' (λ w. omega arith) a b in
+        ⊎_elim
+        (λ c. let is : k ≡ l = sym (edge.ranked k h) ∙ ap (λ w. slice_index edge.ranks.now w) (sym (law.high j (member edge k) c)) ∙ e in
+        law'.high j x' (omega (arith, s.top)) ∙ v ∙ ap (λ w. edge.first + w) is ∙ sym z)
+        (λ c. ap (m'.partner j) v ∙ s.links j k (omega arith) c h ∙ ap (λ i. edge.first + place m edge i k) (under_other j (λ w. omega arith)) ∙ ap (λ w. edge.first + w) e ∙ sym z)
+        (cases_lt m.top j)
+
+    pub split_at : SplitAt m t edge.first (edge.first, count edge) m'
+    split_at =
+        record {
+          size = s.size;
+          top = s.top;
+          born = λ x x' b. let (k, h, p, v) = stands x x' b in ap m'.live v ∙ s.born k h;
+          as_live = λ y q. s.as_live y (λ l h e. q (member edge l) (subst (Stands (member edge l)) (sym e) (stand l h)));
+          ends = λ x x' b. let (k, h, p, v) = stands x x' b in ap (m'.partner 0) p ∙ s.ends k h ∙ sym v;
+          back = λ x x' b. let (k, h, p, v) = stands x x' b in ap (m'.partner 0) v ∙ s.back k h ∙ sym p;
+          meet = meet;
+          along = along;
+          others = λ j y off q. s.others j y
+              (λ e (k, h, p). off e (subst (Cell m 1 t) p (r.only k h)))
+              (λ l h e. q (member edge l) (subst (Stands (member edge l)) (sym e) (stand l h)));
+          first = refl;
+          count = edge_counts m t _ _ _ r;
+        }

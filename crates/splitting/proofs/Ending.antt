@@ -1,139 +1,50 @@
--- Tying the tuples of the edge to the new ones: one, and one after the other.
-use Rattle.std.proofs.Common.{◌≡◌, ℕ, ◌+◌, ◌<◌, ◌≤◌, true, ◌⊎◌, List, get_or, sym, refl, ap, ◌∙◌, subst, inl, inr, ⊎_elim, arith}
+-- Tying the tuples of the edge to the new ones: one more of them.
+use Rattle.std.proofs.Common.{◌≡◌, ℕ, ◌+◌, ◌<◌, ◌≤◌, sym, ap, ◌∙◌, subst, inl, inr, ⊎_elim, arith, below_more}
 use Rattle.std.proofs.lemmas.Bool.{cases_eq, cases_lt}
-use Rattle.gmap.specs.Map.{Map, Partners, Free, Same}
-use Rattle.gmap.specs.Acts.{tie_checks, tied}
-use Rattle.gmap.specs.Outcome.{First}
-use Rattle.gmap.specs.declared.refusal.Refusal.{Refusal}
-use Rattle.gmap.proofs.Acts.{tie_accepted}
-use Rattle.gmap.proofs.Listing.{among_split}
-use Rattle.splitting.specs.Edges.{Tieable}
-use Rattle.splitting.specs.Stages.{EndTied, Ends}
-use Rattle.splitting.specs.Wired.{Wired, Tie}
-use Rattle.splitting.proofs.Wiring.{Loose, wired_none, wired_idle, wired_then, wired_tie}
+use Rattle.gmap.specs.Map.{Map, Partners, Free}
+use Rattle.splitting.specs.Edges.{count, member, Tieable}
+use Rattle.splitting.specs.Stages.{Retied, Ended}
+use Rattle.splitting.specs.declared.edge.Edge.{Edge}
+use Rattle.splitting.proofs.Frames.{frame_then}
+use Rattle.splitting.proofs.Places.{same_place}
 
--- a tuple that is free is loose
-pub loose_free : (m : Map) (x : ℕ) → Free m 0 x → Wired (Loose m 0 x) m m
-loose_free m x free =
-    let no : ℕ → ℕ → ℕ → Type 0 = λ i a b. ⊥ in
-    wired_idle no (Loose m 0 x) m m (λ i a b r. absurd r)
-    (λ i a b (e, h, f). inr ((λ d r. r), let is : a ≡ x = ⊎_elim (λ p. p) (λ p. p ∙ free) h in subst (λ v. m.partner v a ≡ b) (sym e) (ap (m.partner 0) is ∙ free ∙ sym is ∙ sym f)))
-    (wired_none no m (λ i a b r. r))
+module _ (m : Map) (edge : Edge) (able : Tieable m edge) where
+  module _ (k : ℕ) (h : k < count edge) (now : Map) (law : Partners now) (w : Ended m edge k now) (next : Map) (v : Retied (member edge k) (edge.first + k) now next) where
+    abbrev p : ℕ
+    p = now.partner 0 (member edge k)
 
-module _ (m : Map) (law : Partners m) (x y : ℕ) (apart : x ≡ y → ⊥) (free : Free m 0 y) (now : Map) (w : Wired (Loose m 0 x) m now) where
-  -- y was no partner of x
-  unmet : y ≡ m.partner 0 x → ⊥
-  unmet e = apart (sym (law.back 0 x) ∙ ap (m.partner 0) (sym e) ∙ free)
+    new : (j l : ℕ) → j < count edge → l < count edge → member edge j ≡ edge.first + l → ⊥
+    new = able.seated.new
 
-  pub end_passes : Partners now → m.live x ≡ true → m.live y ≡ true → (e : Refusal) → First (tie_checks now 0 x y) e → ⊥
-  end_passes law' left right =
-      tie_accepted now law' 0 x (omega arith) (w.live x ∙ left) y (w.live y ∙ right) apart
-      (w.ties 0 x x (refl, inl refl, refl))
-      (w.rest 0 y (λ b (e, h, f). ⊎_elim (λ p. apart (sym p)) unmet h) ∙ free)
-
-  pub end_tied : (next : Map) → Same next (tied now 0 x y) → Wired (EndTied m x y) m next
-  end_tied next same =
-      wired_then (Loose m 0 x) (Tie 0 x y) (EndTied m x y) m now next
-      (λ i a b (e, h). (e, ⊎_elim (λ p. inl p) (λ p. inr (inl p)) h))
-      (λ i a b (e, h, f). ⊎_elim
-      (λ p. inr (y, (e, inl (p, refl))))
-      (λ q. inl (e, inr (inr (⊎_elim (λ p. absurd (q p)) (λ p. p) h, q, f))))
-      (cases_eq a x))
-      (λ i a b (e, h). ⊎_elim (λ p. inl (e, inl p)) (⊎_elim (λ p. inl (e, inr p)) (λ (p, q, f). inr ((e, inr p, f), (λ d (g, t). ⊎_elim (λ (u, v). q u) (λ (u, v). unmet (sym u ∙ p)) t)))) h)
-      w (wired_tie now 0 x y next apart same)
-
-module _ (m : Map) (law : Partners m) (f n : ℕ) (xs : List ℕ) (able : Tieable m f n xs) (k : ℕ) (h : k < n) (now : Map) (w : Wired (Ends m f n xs k) m now) where
-  abbrev x : ℕ
-  x = get_or xs k 0
-
-  abbrev y : ℕ
-  y = f + k
-
-  new : (j l : ℕ) → j < n → l < n → get_or xs j 0 ≡ f + l → ⊥
-  new = able.seated.new
-
-  same_place : (j l : ℕ) → j < n → l < n → get_or xs j 0 ≡ get_or xs l 0 → j ≡ l
-  same_place = able.seated.edge.apart
-
-  pub end_free : Free now 0 y
-  end_free =
-      w.rest 0 y (λ b (e, t). ⊎_elim
-      (λ (l, c, p, v). new l k (omega arith) h (sym p))
-      (⊎_elim (λ (l, c, p, v). omega arith) (λ (l, c, d, p, o, v). new l k c h (sym p)))
-      t) ∙ able.free k h
-
-  -- a partner that stands later has not been met
-  later : (q : ℕ) → q < n → k ≤ q → get_or xs q 0 ≡ m.partner 0 x → now.partner 0 x ≡ m.partner 0 x
-  later q b c e =
-      w.rest 0 x (λ d (_, t). ⊎_elim
-      (λ (l, s, p, v). omega (arith, same_place k l h (omega arith) p))
-      (⊎_elim (λ (l, s, p, v). new k l h (omega arith) p) (λ (l, s, u, p, (j, g, o), v). omega (arith, same_place j q (omega arith) b (o ∙ sym e))))
-      t)
-
-  -- where the partner is linked to x still, it stands later
-  met : (now.partner 0 x ≡ x → ⊥) → (q : ℕ) × (q < n) × (k < q) × (now.partner 0 x ≡ get_or xs q 0) × (m.partner 0 (get_or xs q 0) ≡ x)
-  met linked =
-      let (q, b, e) = able.seated.edge.closed 0 k (λ z. omega arith) h in
-      ⊎_elim
-      (λ c. absurd (linked (w.ties 0 x x (refl, inr (inr (k, h, omega arith, refl, (q, c, e), refl))))))
-      (λ c. let is = later q b c e ∙ sym e in
-      let ne : k ≡ q → ⊥ = λ z. linked (is ∙ ap (λ v. get_or xs v 0) (sym z)) in
-      (q, b, omega arith, is, ap (m.partner 0) e ∙ law.back 0 x))
-      (cases_lt q k)
-
-  pub ends_more : (next : Map) → Wired (EndTied now x y) now next → Wired (Ends m f n xs (k + 1)) m next
-  ends_more next v = wired_then (Ends m f n xs k) (EndTied now x y) (Ends m f n xs (k + 1)) m now next to keep fro w v
-    where
-      to : (i a b : ℕ) → EndTied now x y i a b → Ends m f n xs (k + 1) i a b
-      to i a b (e, t) = (
-        e,
+    -- what was the partner stands in the list, and no tie was met there
+    mate : (q : ℕ) × (q < count edge) × (k ≤ q) × (member edge q ≡ p)
+    mate =
+        let (q, b, e) : (q : ℕ) × (q < count edge) × (member edge q ≡ p) = ⊎_elim
+            (λ free. (k, h, sym free))
+            (λ old. let (q, b, e) = able.seated.closed.closed 0 k (λ z. omega arith) h in (q, b, e ∙ sym old))
+            (w.left k (omega arith) h) in
         ⊎_elim
-            (λ (p, v). inl (k, omega arith, p, v))
-            (⊎_elim
-            (λ (p, v). inr (inl (k, omega arith, p, v)))
-            (λ (p, ne, v). let (q, b, c, is, back) = met (λ z. ne (p ∙ z)) in
-            inr (inr (q, b, omega arith, p ∙ is, (k, omega arith, sym back ∙ ap (m.partner 0) (sym (p ∙ is))), v))))
-            t,
-      )
+        (λ c. absurd (new k q h b (sym (law.back 0 (member edge k)) ∙ ap (now.partner 0) (sym e) ∙ w.ends q c)))
+        (λ c. (q, b, c, e))
+        (cases_lt q k)
 
-      keep : (i a b : ℕ) → Ends m f n xs k i a b → Ends m f n xs (k + 1) i a b ⊎ ((d : ℕ) × EndTied now x y i a d)
-      keep i a b (e, t) =
-          ⊎_elim
-          (λ (l, c, p, v). inl (e, inl (l, omega arith, p, v)))
-          (⊎_elim
-          (λ (l, c, p, v). inl (e, inr (inl (l, omega arith, p, v))))
-          (λ (l, c, d, p, (j, g, o), v). ⊎_elim
-          (λ z. inr (y, (e, inl (p ∙ ap (λ v. get_or xs v 0) z, refl))))
-          (λ z. inl (e, inr (inr (l, c, omega arith, p, (j, omega arith, o), v))))
-          (cases_eq l k)))
-          t
-
-      -- a place other than those of x, y and the partner of x is as it was
-      off : (i a : ℕ) → (a ≡ x → ⊥) → (a ≡ y → ⊥) → ((q : ℕ) → q < n → k < q → a ≡ get_or xs q 0 → m.partner 0 a ≡ x → ⊥) → (d : ℕ) → EndTied now x y i a d → ⊥
-      off i a nx ny nq d (e, t) =
-          ⊎_elim
-          (λ (p, v). nx p)
-          (⊎_elim
-          (λ (p, v). ny p)
-          (λ (p, ne, v). let (q, b, c, is, back) = met (λ z. ne (p ∙ z)) in nq q b c (p ∙ is) (ap (m.partner 0) (p ∙ is) ∙ back)))
-          t
-
-      fro : (i a b : ℕ) → Ends m f n xs (k + 1) i a b → EndTied now x y i a b ⊎ (Ends m f n xs k i a b × ((d : ℕ) → EndTied now x y i a d → ⊥))
-      fro i a b (e, t) =
-          ⊎_elim
-          (λ (l, c, p, v). ⊎_elim
-          (λ z. inl (e, inl (p ∙ ap (λ v. get_or xs v 0) z, v ∙ ap (λ v. f + v) z)))
-          (λ z. inr ((e, inl (l, omega arith, p, v)), off i a (λ s. z (same_place l k (omega arith) h (sym p ∙ s))) (λ s. new l k (omega arith) h (sym p ∙ s)) (λ q b g s o. omega (arith, same_place l q (omega arith) b (sym p ∙ s)))))
-          (cases_eq l k))
-          (⊎_elim
-          (λ (l, c, p, v). ⊎_elim
-          (λ z. inl (e, inr (inl (p ∙ ap (λ v. f + v) z, v ∙ ap (λ v. get_or xs v 0) z))))
-          (λ z. inr ((e, inr (inl (l, omega arith, p, v))), off i a (λ s. new k l h (omega arith) (sym s ∙ p)) (λ s. z (omega arith)) (λ q b g s o. new q l b (omega arith) (sym s ∙ p))))
-          (cases_eq l k))
-          (λ (l, c, d, p, o, v). let ne : a ≡ x → ⊥ = λ s. omega (arith, same_place l k c h (sym p ∙ s)) in
-          ⊎_elim
-          (λ g. inr ((e, inr (inr (l, c, omega arith, p, g, v))), off i a ne (λ s. new l k c h (sym p ∙ s)) (λ q b u s z. let (j, r, t) = g in omega (arith, same_place j k (omega arith) h (t ∙ z)))))
-          (λ z. let is : a ≡ m.partner 0 x = sym (law.back 0 a) ∙ ap (m.partner 0) z in
-          inl (e, inr (inr (is ∙ sym (later l c (omega arith) (sym p ∙ is)), ne, v))))
-          (among_split xs k (m.partner 0 a) o)))
-          t
+    pub ended_more : Ended m edge (k + 1) next
+    ended_more =
+        let (q, b, c, e) = mate in
+        record {
+          frame = frame_then w.frame v.frame;
+          ends = below_more (λ l. next.partner 0 (member edge l) ≡ edge.first + l) k
+              (λ l s. v.rest _ (λ z. omega (arith, same_place edge l k (omega arith) h z)) (λ z. new l k (omega arith) h z) (λ z. omega (arith, same_place edge l q (omega arith) b (z ∙ sym e))) ∙ w.ends l s)
+              v.there;
+          back = below_more (λ l. next.partner 0 (edge.first + l) ≡ member edge l) k
+              (λ l s. v.rest _ (λ z. new k l h (omega arith) (sym z)) (λ z. omega arith) (λ z. new q l b (omega arith) (e ∙ sym z)) ∙ w.back l s)
+              v.back;
+          free = λ l s u. v.rest _ (λ z. new k l h u (sym z)) (λ z. omega arith) (λ z. new q l b u (e ∙ sym z)) ∙ w.free l (omega arith) u;
+          left = λ l s u.
+              let ne : member edge l ≡ member edge k → ⊥ = λ z. omega (arith, same_place edge l k u h z) in
+              ⊎_elim
+              (λ z. inl (subst (Free next 0) (sym z) (v.freed (λ o. ne (z ∙ o)))))
+              (λ z. let is = v.rest _ ne (λ o. new l k u h o) z in ⊎_elim (λ o. inl (is ∙ o)) (λ o. inr (is ∙ o)) (w.left l (omega arith) u))
+              (cases_eq (member edge l) p);
+          rest = λ y off fresh. v.rest y (λ z. off (k, h, sym z)) (fresh k h) (λ z. off (q, b, e ∙ sym z)) ∙ w.rest y off fresh;
+        }

@@ -1,6 +1,5 @@
 -- Lemmas of a split.
-pub mod Settled
-pub mod Wiring
+pub mod Frames
 pub mod Opening
 pub mod Places
 pub mod Linking

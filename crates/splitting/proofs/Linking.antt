@@ -1,139 +1,109 @@
 -- Linking the new tuples as those of the edge: one place after the other, and one switch after the other.
-use Rattle.std.proofs.Common.{◌≡◌, ℕ, ◌+◌, ◌<◌, ◌≤◌, ◌⊎◌, List, length, get_or, sym, ap, ◌∙◌, subst, inl, inr, ⊎_elim, arith}
+use Rattle.std.proofs.Common.{◌≡◌, ℕ, ◌+◌, ◌<◌, ◌≤◌, ◌⊎◌, sym, ap, ◌∙◌, subst, inl, inr, ⊎_elim, arith}
 use Rattle.std.proofs.lemmas.Bool.{cases_eq, cases_lt}
 use Rattle.gmap.specs.Map.{Map, Partners, Free, Same}
 use Rattle.gmap.specs.Acts.{tie_checks, tied}
+use Rattle.gmap.specs.Listing.{Among}
 use Rattle.gmap.specs.Outcome.{First}
 use Rattle.gmap.specs.declared.refusal.Refusal.{Refusal}
-use Rattle.gmap.proofs.Acts.{tie_accepted}
-use Rattle.gmap.proofs.Looks.{partner_inside}
-use Rattle.splitting.specs.Edges.{under, place, Ranks, Seated, Linkable}
-use Rattle.splitting.specs.Stages.{NewLinks, AllNewLinks}
-use Rattle.splitting.specs.Wired.{Wired, Tie}
-use Rattle.splitting.proofs.Places.{under_off, place_low, place_back, old_partner, old_place}
-use Rattle.splitting.proofs.Wiring.{wired_idle, wired_then, wired_tie}
+use Rattle.gmap.proofs.Acts.{tie_accepted, tied_frame, tied_left, tied_right, tied_rest}
+use Rattle.gmap.proofs.Same.{same_path}
+use Rattle.splitting.specs.Edges.{under, count, member, place, Seated, Linkable}
+use Rattle.splitting.specs.Stages.{Linked, AllLinked}
+use Rattle.splitting.specs.declared.edge.Edge.{Edge}
+use Rattle.splitting.proofs.Frames.{frame_then}
+use Rattle.splitting.proofs.Places.{under_off, place_low, place_is, place_back, seated_kept, old_place}
 
-module _ (m : Map) (law : Partners m) (j f n : ℕ) (xs ranks : List ℕ) (able : Linkable m j f n xs) (r : Ranks m n xs ranks) where
+module _ (m : Map) (law : Partners m) (j : ℕ) (edge : Edge) (able : Linkable m j edge) where
   abbrev q : ℕ → ℕ
-  q = place m xs ranks (under j)
+  q = place m edge (under j)
 
-  abbrev Done : ℕ → ℕ → ℕ → ℕ → Type 0
-  Done = NewLinks m j f n xs ranks
+  inside : (l : ℕ) → l < count edge → q l < count edge
+  inside = place_low m edge able.seated.closed (under j) (under_off j)
 
-  low : (l : ℕ) → l < n → q l < n
-  low = place_low m n xs ranks able.seated.edge r (under j) (under_off j)
+  back : (l : ℕ) → l < count edge → q (q l) ≡ l
+  back = place_back m edge law able.seated.closed (under j) (under_off j)
 
-  back : (l : ℕ) → l < n → q (q l) ≡ l
-  back = place_back m n xs ranks law able.seated.edge r (under j) (under_off j)
-
-  pub links_only : (k i a b : ℕ) → Done k i a b → (l : ℕ) × (l < n) × (a ≡ f + l)
-  links_only k i a b (e, (l, h, d, p, v)) = (l, h, p)
-
-  module _ (k : ℕ) (h : k < n) (now : Map) (w : Wired (Done k) m now) where
-    grows : (i a b : ℕ) → Done k i a b → Done (k + 1) i a b
-    grows i a b (e, (l, c, d, p, v)) = (e, (l, c, ⊎_elim (λ s. inl (omega arith)) (λ s. inr (omega arith)) d, p, v))
-
-    -- a tuple whose link was not met is free
-    unmet : (l : ℕ) → l < n → k ≤ l → k ≤ q l → (d : ℕ) → Done k j (f + l) d → ⊥
-    unmet l c s u d (e, (o, b, g, p, v)) =
-        let is : l ≡ o = omega arith in
-        let is' : q l ≡ q o = ap q is in
-        ⊎_elim (λ t. omega arith) (λ t. omega arith) g
-
-    free : (l : ℕ) → l < n → k ≤ l → k ≤ q l → Free now j (f + l)
-    free l c s u = w.rest j (f + l) (unmet l c s u) ∙ able.free l c
-
-    module _ (switch partner : ℕ) (is : switch ≡ under j) (look : partner ≡ now.partner switch (get_or xs k 0)) where
+  module _ (k : ℕ) (h : k < count edge) (now : Map) (w : Linked m j edge k now) where
+    module _ (switch partner : ℕ) (is : switch ≡ under j) (look : partner ≡ now.partner switch (member edge k)) where
       -- the partner that is read is the one of the start
-      read_partner : partner ≡ m.partner (under j) (get_or xs k 0)
-      read_partner = look ∙ ap (λ i. now.partner i (get_or xs k 0)) is ∙ old_partner m f n xs able.seated (Done k) now w (links_only k) (under j) k h
+      read_is : member edge (q k) ≡ partner
+      read_is =
+          let old : now.partner switch (member edge k) ≡ m.partner switch (member edge k) = ⊎_elim
+              (λ e. rw e (w.rest (member edge k) (λ l c p. able.seated.new k l h c p)))
+              (λ e. w.frame.others switch (member edge k) e)
+              (cases_eq switch j) in
+          place_is m edge able.seated.closed (under j) (under_off j) k h ∙ sym (look ∙ old ∙ ap (λ i. m.partner i (member edge k)) is)
 
-      pub read_inside : partner < length ranks
-      read_inside = omega (arith, read_partner, partner_inside m law (under j) (get_or xs k 0) (able.seated.edge.live k h), r.deep)
+      pub read_among : Among edge.members.now (count edge) partner
+      read_among = (q k, inside k h, read_is)
 
-      pub read_place : get_or ranks partner 0 ≡ q k
-      read_place = ap (λ x. get_or ranks x 0) read_partner
+      pub read_beside : (x : ℕ) → ((l : ℕ) → l < count edge → member edge l ≡ partner → x ≡ edge.first + l) → x ≡ edge.first + q k
+      read_beside x beside = beside (q k) (inside k h) read_is
 
     -- the place's partner stands before it, or is itself
-    pub link_skip : q k ≤ k → Wired (Done (k + 1)) m now
-    link_skip le = wired_idle (Done k) (Done (k + 1)) m now grows fro w
+    pub link_skip : q k ≤ k → Linked m j edge (k + 1) now
+    link_skip le = record { frame = w.frame; links = links; free = λ l c s u. w.free l c (omega arith) (omega arith); rest = w.rest }
       where
-        met : (l : ℕ) → l < n → (l < k + 1) ⊎ (q l < k + 1) → ((l < k) ⊎ (q l < k)) ⊎ ((l ≡ k) × (q l ≡ k))
-        met l c d =
-            ⊎_elim (λ s. inl (inl s)) (λ s. ⊎_elim (λ u. inl (inr u)) (λ u. inr (
-            ⊎_elim
-            (λ v. let e : l ≡ k = omega arith in (e, omega (arith, ap q e)))
-            (λ v. let e : q l ≡ k = omega arith in let t : l ≡ q k = sym (back l c) ∙ ap q e in let o : l ≡ k = omega arith in (o, e))
-            d)) (cases_lt (q l) k)) (cases_lt l k)
+        links : (l : ℕ) → l < count edge → (l < k + 1) ⊎ (q l < k + 1) → now.partner j (edge.first + l) ≡ edge.first + q l
+        links l c d =
+            ⊎_elim (λ s. w.links l c (inl s)) (λ s. ⊎_elim (λ u. w.links l c (inr u)) (λ u.
+            let e : q l ≡ l = ⊎_elim
+                (λ v. let e : l ≡ k = omega arith in omega (arith, ap q e))
+                (λ v. let e : q l ≡ k = omega arith in omega (arith, back l c, ap q e))
+                d in
+            w.free l c s u ∙ omega arith) (cases_lt (q l) k)) (cases_lt l k)
 
-        fro : (i a b : ℕ) → Done (k + 1) i a b → Done k i a b ⊎ (((d : ℕ) → Done k i a d → ⊥) × (m.partner i a ≡ b))
-        fro i a b (e, (l, c, d, p, v)) =
-            ⊎_elim
-            (λ s. inl (e, (l, c, s, p, v)))
-            (λ (s, t). inr (
-              (λ d o. unmet l c (omega arith) (omega arith) d (subst (λ z. Done k j z d) p (subst (λ z. Done k z a d) e o))),
-              subst (λ z. m.partner z a ≡ b) (sym e) (ap (m.partner j) p ∙ able.free l c ∙ omega arith),
-            ))
-            (met l c d)
-
-    module _ (o : ℕ) (is : o ≡ q k) (lt : k < o) where
-      abbrev Here : ℕ → ℕ → ℕ → Type 0
-      Here = Tie j (f + k) (f + o)
-
-      pub mate_low : o < n
-      mate_low = omega (arith, low k h)
-
-      mate_back : q o ≡ k
-      mate_back = ap q is ∙ back k h
-
-      pub tie_passes : Partners now → (e : Refusal) → First (tie_checks now j (f + k) (f + o)) e → ⊥
+    module _ (low high : ℕ) (one : low ≡ edge.first + k) (other : high ≡ edge.first + q k) (lt : low < high) where
+      pub tie_passes : Partners now → (e : Refusal) → First (tie_checks now j low high) e → ⊥
       tie_passes law' =
-          tie_accepted now law' j (f + k) (omega (arith, w.top, able.switch)) (w.live _ ∙ able.seated.born k h) (f + o) (w.live _ ∙ able.seated.born o mate_low) (λ e. omega arith)
-          (free k h (omega arith) (omega arith)) (free o mate_low (omega arith) (omega (arith, mate_back)))
+          rw (one, other) (tie_accepted now law' j _ (omega (arith, w.frame.top, able.switch)) (w.frame.live _ ∙ able.seated.born k h) _ (w.frame.live _ ∙ able.seated.born (q k) (inside k h)) (λ e. omega arith)
+          (w.free k h (omega arith) (omega arith)) (w.free (q k) (inside k h) (omega arith) (omega (arith, back k h))))
 
-      pub link_more : (next : Map) → Same next (tied now j (f + k) (f + o)) → Wired (Done (k + 1)) m next
+      pub link_more : (next : Map) → Same next (tied now j low high) → Linked m j edge (k + 1) next
       link_more next same =
-          wired_then (Done k) Here (Done (k + 1)) m now next to (λ i a b d. inl (grows i a b d)) fro w (wired_tie now j (f + k) (f + o) next (λ e. omega arith) same)
+          subst (Linked m j edge (k + 1)) (sym (same_path next (tied now j low high) same)) (record { frame = frame_then w.frame (tied_frame now j low high); links = links; free = free; rest = λ y off. tied_rest now j low high y (λ e. off k h (e ∙ one)) (λ e. off (q k) (inside k h) (e ∙ other)) ∙ w.rest y off })
         where
-          to : (i a b : ℕ) → Here i a b → Done (k + 1) i a b
-          to i a b (e, d) = (
-            e,
-            ⊎_elim
-                (λ (p, v). (k, h, inl (omega arith), p, v ∙ ap (λ z. f + z) is))
-                (λ (p, v). (o, mate_low, inr (omega (arith, mate_back)), p, v ∙ ap (λ z. f + z) (sym mate_back)))
-                d,
-          )
-
-          fro : (i a b : ℕ) → Done (k + 1) i a b → Here i a b ⊎ (Done k i a b × ((d : ℕ) → Here i a d → ⊥))
-          fro i a b (e, (l, c, d, p, v)) =
+          links : (l : ℕ) → l < count edge → (l < k + 1) ⊎ (q l < k + 1) → (tied now j low high).partner j (edge.first + l) ≡ edge.first + q l
+          links l c d =
               ⊎_elim
-              (λ s. inl (e, inl (p ∙ ap (λ z. f + z) s, v ∙ ap (λ z. f + z) (ap q s ∙ sym is))))
+              (λ s. ap ((tied now j low high).partner j) (omega arith) ∙ tied_left now j low high ∙ omega (arith, ap q s))
               (λ s. ⊎_elim
-              (λ u. inl (e, inr (p ∙ ap (λ z. f + z) u, v ∙ ap (λ z. f + z) (ap q u ∙ mate_back))))
-              (λ u. inr (
-                (e, (l, c, ⊎_elim (λ t. inl (omega arith)) (λ t. inr (let ne : q l ≡ k → ⊥ = λ g. u (sym (back l c) ∙ ap q g ∙ sym is) in omega arith)) d, p, v)),
-                (λ d (g, t). ⊎_elim (λ (x, y). s (omega arith)) (λ (x, y). u (omega arith)) t),
-              ))
-              (cases_eq l o))
+              (λ u. ap ((tied now j low high).partner j) (omega arith) ∙ tied_right now j low high (λ e. omega arith) ∙ omega (arith, ap q u, back k h))
+              (λ u. let ne : q l ≡ k → ⊥ = λ g. u (sym (back l c) ∙ ap q g) in
+              tied_rest now j low high (edge.first + l) (λ e. omega arith) (λ e. omega arith) ∙ w.links l c (⊎_elim (λ t. inl (omega arith)) (λ t. inr (omega arith)) d))
+              (cases_eq l (q k)))
               (cases_eq l k)
 
--- one switch more
-module _ (m : Map) (f n : ℕ) (xs ranks : List ℕ) (s : Seated m f n xs) (j : ℕ) (above : 1 ≤ j) (now : Map) (w : Wired (AllNewLinks m f n xs ranks j) m now) where
-  pub all_only : (i a b : ℕ) → AllNewLinks m f n xs ranks j i a b → (l : ℕ) × (l < n) × (a ≡ f + l)
-  all_only i a b (o, u, (l, h, p, v)) = (l, h, p)
+          free : (l : ℕ) → l < count edge → k + 1 ≤ l → k + 1 ≤ q l → Free (tied now j low high) j (edge.first + l)
+          free l c s u =
+              let ne : l ≡ q k → ⊥ = λ e. omega (arith, ap q e, back k h) in
+              tied_rest now j low high (edge.first + l) (λ e. omega arith) (λ e. omega arith) ∙ w.free l c (omega arith) (omega arith)
 
-  pub all_more : (next : Map) → Wired (NewLinks now j f n xs ranks n) now next → Wired (AllNewLinks m f n xs ranks (j + 1)) m next
+-- one switch more
+module _ (m : Map) (edge : Edge) (s : Seated m edge) (j : ℕ) (above : 1 ≤ j) (now : Map) (w : AllLinked m edge j now) where
+  all_old : (i k : ℕ) → k < count edge → now.partner i (member edge k) ≡ m.partner i (member edge k)
+  all_old i k h = w.rest i (member edge k) (λ o u l c e. s.new k l h c e)
+
+  pub all_seated : Seated now edge
+  all_seated = seated_kept m edge s now w.live all_old
+
+  pub all_more : (next : Map) → Linked now j edge (count edge) next → AllLinked m edge (j + 1) next
   all_more next v =
-      let same : (l : ℕ) → l < n → place now xs ranks (under j) l ≡ place m xs ranks (under j) l = old_place m f n xs s _ now w all_only ranks (under j) in
-      wired_then _ _ (AllNewLinks m f n xs ranks (j + 1)) m now next
-      (λ i a b (e, (l, h, d, p, z)). (omega arith, omega arith, (l, h, p, z ∙ ap (λ t. f + t) (same l h ∙ ap (λ t. place m xs ranks (under t) l) (sym e)))))
-      (λ i a b (o, u, d). inl (o, omega arith, d))
-      (λ i a b (o, u, (l, h, p, z)). ⊎_elim
-      (λ e. inl (e, (l, h, inl h, p, z ∙ ap (λ t. f + t) (ap (λ t. place m xs ranks (under t) l) e ∙ sym (same l h)))))
-      (λ e. inr ((o, omega arith, (l, h, p, z)), (λ d (g, x). e g)))
-      (cases_eq i j))
-      w v
+      record {
+        size = v.frame.size ∙ w.size;
+        top = v.frame.top ∙ w.top;
+        live = λ t. v.frame.live t ∙ w.live t;
+        links = λ i l o u h. ⊎_elim
+            (λ e. rw e (v.links l h (inl h) ∙ ap (λ z. edge.first + z) (old_place m edge s now w.live all_old (under j) l h)))
+            (λ e. v.frame.others i _ e ∙ w.links i l o (omega arith) h)
+            (cases_eq i j);
+        rest = λ i y off. ⊎_elim
+            (λ e. rw e (v.rest y (λ l h. off (omega arith) (omega arith) l h)))
+            (λ e. v.frame.others i y e)
+            (cases_eq i j) ∙ w.rest i y (λ o u. off o (omega arith));
+      }
 
   -- in the switch itself they are still free
-  pub all_free : ((i k : ℕ) → k < n → Free m i (f + k)) → (k : ℕ) → k < n → Free now j (f + k)
-  all_free free k h = w.rest j (f + k) (λ b (o, u, d). omega arith) ∙ free j k h
+  pub all_free : ((i k : ℕ) → k < count edge → Free m i (edge.first + k)) → (k : ℕ) → k < count edge → Free now j (edge.first + k)
+  all_free free k h = w.rest j (edge.first + k) (λ o u l c e. omega arith) ∙ free j k h

@@ -1,25 +1,14 @@
 -- Opening the slots of the new tuples, one after the other.
-use Rattle.std.proofs.Common.{◌≡◌, ℕ, ◌+◌, ◌<◌, true, false, eqb, refl, ◌∙◌, inl, inr, arith, below_more}
-use Rattle.std.proofs.lemmas.Bool.{both_ways, eq-eqb, ne_eqb, cond-true, cond-false}
+use Rattle.std.proofs.Common.{◌≡◌, ℕ, ◌+◌, true, eqb, refl, ◌∙◌, arith, below_more}
+use Rattle.std.proofs.lemmas.Bool.{eq-eqb, ne_eqb, cond-true, cond-false}
 use Rattle.gmap.specs.Map.{Map, Same}
-use Rattle.gmap.specs.Acts.{open_checks, opened}
-use Rattle.gmap.specs.Outcome.{First}
-use Rattle.gmap.specs.declared.refusal.Refusal.{Refusal}
+use Rattle.gmap.specs.Acts.{opened}
 use Rattle.splitting.specs.Stages.{Opened}
-
-pub open_accepted : (m : Map) (t : ℕ) → t < m.size → m.live t ≡ false → (e : Refusal) → First (open_checks m t) e → ⊥
-open_accepted m t low vacant e (inl (h, q)) = omega arith
-open_accepted m t low vacant e (inr (h, inl (l, q))) = both_ways (m.live t) vacant l
-open_accepted m t low vacant e (inr (h, inr (l, none))) = none
 
 pub opened_none : (f : ℕ) (m : Map) → Opened f 0 m m
 opened_none f m = record { size = refl; top = refl; born = λ l h. absurd (omega arith); as_live = λ y q. refl; partner = λ i y. refl }
 
 module _ (f k : ℕ) (m now : Map) (s : Opened f k m now) where
-  -- the next slot is as it was
-  pub opened_next : now.live (f + k) ≡ m.live (f + k)
-  opened_next = s.as_live (f + k) (λ l h e. omega arith)
-
   pub opened_more : (next : Map) → Same next (opened now (f + k)) → Opened f (k + 1) m next
   opened_more next same =
       let elsewhere : (y : ℕ) → (y ≡ f + k → ⊥) → next.live y ≡ now.live y = λ y e. same.live y ∙ cond-false (eqb y (f + k)) true (now.live y) (ne_eqb y (f + k) e) in

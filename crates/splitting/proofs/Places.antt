@@ -1,9 +1,9 @@
 -- The places of the partners of an edge's tuples.
-use Rattle.std.proofs.Common.{◌≡◌, ℕ, ◌+◌, ◌<◌, ◌≤◌, eqb, List, length, get_or, sym, ap, ◌∙◌, subst, ⊎_elim, arith}
+use Rattle.std.proofs.Common.{◌≡◌, ℕ, ◌<◌, eqb, slice_index, sym, ap, ◌∙◌, ⊎_elim, arith}
 use Rattle.std.proofs.lemmas.Bool.{cases_eq, eq-eqb, ne_eqb, cond-true, cond-false}
 use Rattle.gmap.specs.Map.{Map, Partners}
-use Rattle.splitting.specs.Edges.{under, place, Edge, Ranks, Seated}
-use Rattle.splitting.specs.Wired.{Wired}
+use Rattle.splitting.specs.Edges.{under, count, member, place, Closed, Seated}
+use Rattle.splitting.specs.declared.edge.Edge.{Edge}
 
 pub under_one : (j : ℕ) → j ≡ 1 → under j ≡ 0
 under_one j e = cond-true (eqb j 1) 0 j (eq-eqb j 1 e)
@@ -15,48 +15,37 @@ under_other j e = cond-false (eqb j 1) 0 j (ne_eqb j 1 e)
 pub under_off : (j : ℕ) → under j ≡ 1 → ⊥
 under_off j h = ⊎_elim (λ e. omega (arith, under_one j e)) (λ e. e (sym (under_other j e) ∙ h)) (cases_eq j 1)
 
-pub under_low : (j : ℕ) → under j ≤ j
-under_low j = ⊎_elim (λ e. omega (arith, under_one j e)) (λ e. omega (arith, under_other j e)) (cases_eq j 1)
+-- the tuples of an edge are different
+pub same_place : (edge : Edge) (k l : ℕ) → k < count edge → l < count edge → member edge k ≡ member edge l → k ≡ l
+same_place edge k l h b e = sym (edge.ranked k h) ∙ ap (λ x. slice_index edge.ranks.now x) e ∙ edge.ranked l b
 
-module _ (m : Map) (n : ℕ) (xs ranks : List ℕ) (edge : Edge m n xs) (r : Ranks m n xs ranks) (i : ℕ) (on : i ≡ 1 → ⊥) (k : ℕ) (h : k < n) where
-  pub place_of : (l : ℕ) → l < n → get_or xs l 0 ≡ m.partner i (get_or xs k 0) → place m xs ranks i k ≡ l
-  place_of l b e = ap (λ x. get_or ranks x 0) (sym e) ∙ r.rank l b
+module _ (m : Map) (edge : Edge) (closed : Closed m edge) (i : ℕ) (on : i ≡ 1 → ⊥) (k : ℕ) (h : k < count edge) where
+  pub place_of : (l : ℕ) → l < count edge → member edge l ≡ m.partner i (member edge k) → place m edge i k ≡ l
+  place_of l b e = ap (λ x. slice_index edge.ranks.now x) (sym e) ∙ edge.ranked l b
 
-  pub place_low : place m xs ranks i k < n
-  place_low = let (l, b, e) = edge.closed i k on h in omega (arith, place_of l b e)
+  pub place_low : place m edge i k < count edge
+  place_low = let (l, b, e) = closed.closed i k on h in omega (arith, place_of l b e)
 
-  pub place_is : get_or xs (place m xs ranks i k) 0 ≡ m.partner i (get_or xs k 0)
-  place_is = let (l, b, e) = edge.closed i k on h in ap (λ v. get_or xs v 0) (place_of l b e) ∙ e
+  pub place_is : member edge (place m edge i k) ≡ m.partner i (member edge k)
+  place_is = let (l, b, e) = closed.closed i k on h in ap (member edge) (place_of l b e) ∙ e
 
 -- the place of the partner's partner
-pub place_back : (m : Map) (n : ℕ) (xs ranks : List ℕ) → Partners m → Edge m n xs → Ranks m n xs ranks → (i : ℕ) → (i ≡ 1 → ⊥) → (k : ℕ) → k < n → place m xs ranks i (place m xs ranks i k) ≡ k
-place_back m n xs ranks law edge r i on k h =
-    place_of m n xs ranks edge r i on (place m xs ranks i k) (place_low m n xs ranks edge r i on k h) k h (sym (law.back i (get_or xs k 0)) ∙ ap (m.partner i) (sym (place_is m n xs ranks edge r i on k h)))
+pub place_back : (m : Map) (edge : Edge) → Partners m → Closed m edge → (i : ℕ) → (i ≡ 1 → ⊥) → (k : ℕ) → k < count edge → place m edge i (place m edge i k) ≡ k
+place_back m edge law closed i on k h =
+    place_of m edge closed i on (place m edge i k) (place_low m edge closed i on k h) k h (sym (law.back i (member edge k)) ∙ ap (m.partner i) (sym (place_is m edge closed i on k h)))
 
--- a new tuple's number is that of a slot
-pub born_fits : (m : Map) (f n : ℕ) (xs : List ℕ) → Partners m → Seated m f n xs → (k : ℕ) → k < n → f + k < 4096
-born_fits m f n xs law s k h = omega (arith, law.inside (f + k) (s.born k h), law.few)
-
--- where only new tuples have new partners, the edge is as it was
-module _ (m : Map) (f n : ℕ) (xs : List ℕ) (s : Seated m f n xs) (R : ℕ → ℕ → ℕ → Type 0) (now : Map) (w : Wired R m now) (only : (i a b : ℕ) → R i a b → (l : ℕ) × (l < n) × (a ≡ f + l)) where
-  pub old_partner : (i k : ℕ) → k < n → now.partner i (get_or xs k 0) ≡ m.partner i (get_or xs k 0)
-  old_partner i k h = w.rest i (get_or xs k 0) (λ b r. let (l, c, e) = only i _ b r in s.new k l h c e)
-
-  pub old_place : (ranks : List ℕ) (i k : ℕ) → k < n → place now xs ranks i k ≡ place m xs ranks i k
-  old_place ranks i k h = ap (λ x. get_or ranks x 0) (old_partner i k h)
-
-  pub seated_kept : Seated now f n xs
+-- where the tuples of the edge have their partners still, a step later
+module _ (m : Map) (edge : Edge) (s : Seated m edge) (now : Map) (live : (t : ℕ) → now.live t ≡ m.live t) (old : (i k : ℕ) → k < count edge → now.partner i (member edge k) ≡ m.partner i (member edge k)) where
+  pub seated_kept : Seated now edge
   seated_kept =
       record {
-        edge = record {
-          fits = s.edge.fits;
-          live = λ k h. w.live _ ∙ s.edge.live k h;
-          apart = s.edge.apart;
-          closed = λ i k on h. let (l, b, e) = s.edge.closed i k on h in (l, b, e ∙ sym (old_partner i k h));
+        closed = record {
+          live = λ k h. live _ ∙ s.closed.live k h;
+          closed = λ i k on h. let (l, b, e) = s.closed.closed i k on h in (l, b, e ∙ sym (old i k h));
         };
-        born = λ k h. w.live _ ∙ s.born k h;
+        born = λ k h. live _ ∙ s.born k h;
         new = s.new;
       }
 
-  pub ranks_kept : (ranks : List ℕ) → Ranks m n xs ranks → Ranks now n xs ranks
-  ranks_kept ranks r = record { deep = subst (λ v. v ≤ length ranks) (sym w.size) r.deep; rank = r.rank }
+  pub old_place : (i k : ℕ) → k < count edge → place now edge i k ≡ place m edge i k
+  old_place i k h = ap (λ x. slice_index edge.ranks.now x) (old i k h)

@@ -1,9 +1,10 @@
--- The edge that is split, as a list of its tuples, and the slots of the new tuples, which are numbered from f on.
+-- The edge that is split, in a map, and the slots of the new tuples.
 --   under        the switch of the edge that a switch of the new vertex mirrors
+--   count        how many tuples the edge has
+--   member       the one at a place
 --   place        where the partner of the tuple at a place stands
---   Edge         the first entries of a list are different tuples, and their partners in all switches but 1 are among them
---   Ranks        another list has their places
---   Vacancies    the slots of the new tuples are there, and vacant
+--   Closed       the edge's tuples are there, and their partners in all switches but 1 are among them
+--   Vacancies    the slots from a number on, as many as are wanted, are there, and vacant
 --   Seated       the new tuples are there, beside those of the edge
 --   Linkable     they are free in a switch above 0
 --   Tieable      they are free in switch 0
@@ -12,40 +13,41 @@ use Rattle.std.specs.Prelude.{◌≡◌, ℕ, ◌+◌, ◌<◌, ◌≤◌, true,
 use Rattle.gmap.specs.Map.{Map, Free}
 use Rattle.gmap.specs.Listing.{Among}
 use Rattle.gmap.specs.Splitting.{Taken}
+use Rattle.splitting.specs.declared.edge.Edge.{Edge}
 
 abbrev pub under : ℕ → ℕ
 under j = cond (j == 1) 0 j
 
-abbrev pub place : Map → List ℕ → List ℕ → ℕ → ℕ → ℕ
-place m xs ranks i k = slice_index ranks (m.partner i (slice_index xs k))
+abbrev pub count : Edge → ℕ
+count e = length e.members.now
 
-pub record Edge (m : Map) (n : ℕ) (xs : List ℕ) : Type 0 where
-  pub fits : n ≤ length xs
-  pub live : (k : ℕ) → k < n → m.live (slice_index xs k) ≡ true
-  pub apart : (k l : ℕ) → k < n → l < n → slice_index xs k ≡ slice_index xs l → k ≡ l
-  pub closed : (i k : ℕ) → (i ≢ 1) → k < n → Among xs n (m.partner i (slice_index xs k))
+abbrev pub member : Edge → ℕ → ℕ
+member e k = slice_index e.members.now k
 
-pub record Ranks (m : Map) (n : ℕ) (xs ranks : List ℕ) : Type 0 where
-  pub deep : m.size ≤ length ranks
-  pub rank : (k : ℕ) → k < n → slice_index ranks (slice_index xs k) ≡ k
+abbrev pub place : Map → Edge → ℕ → ℕ → ℕ
+place m e i k = slice_index e.ranks.now (m.partner i (member e k))
+
+pub record Closed (m : Map) (e : Edge) : Type 0 where
+  pub live : (k : ℕ) → k < count e → m.live (member e k) ≡ true
+  pub closed : (i k : ℕ) → (i ≢ 1) → k < count e → Among e.members.now (count e) (m.partner i (member e k))
 
 abbrev pub Vacancies : Map → ℕ → ℕ → Type 0
-Vacancies m f n = (k : ℕ) → k < n → (f + k < m.size) × (m.live (f + k) ≡ false)
+Vacancies m f n = (x : ℕ) → f ≤ x → x < f + n → (x < m.size) × (m.live x ≡ false)
 
-pub record Seated (m : Map) (f n : ℕ) (xs : List ℕ) : Type 0 where
-  pub edge : Edge m n xs
-  pub born : (k : ℕ) → k < n → m.live (f + k) ≡ true
-  pub new : (k l : ℕ) → k < n → l < n → slice_index xs k ≢ f + l
+pub record Seated (m : Map) (e : Edge) : Type 0 where
+  pub closed : Closed m e
+  pub born : (k : ℕ) → k < count e → m.live (e.first + k) ≡ true
+  pub new : (k l : ℕ) → k < count e → l < count e → member e k ≢ e.first + l
 
-pub record Linkable (m : Map) (j f n : ℕ) (xs : List ℕ) : Type 0 where
-  pub seated : Seated m f n xs
+pub record Linkable (m : Map) (j : ℕ) (e : Edge) : Type 0 where
+  pub seated : Seated m e
   pub above : 1 ≤ j
   pub switch : j ≤ m.top
-  pub free : (k : ℕ) → k < n → Free m j (f + k)
+  pub free : (k : ℕ) → k < count e → Free m j (e.first + k)
 
-pub record Tieable (m : Map) (f n : ℕ) (xs : List ℕ) : Type 0 where
-  pub seated : Seated m f n xs
-  pub free : (k : ℕ) → k < n → Free m 0 (f + k)
+pub record Tieable (m : Map) (e : Edge) : Type 0 where
+  pub seated : Seated m e
+  pub free : (k : ℕ) → k < count e → Free m 0 (e.first + k)
 
 abbrev pub edge_checks : Map → ℕ → ℕ → List (Type 0 × ℕ)
 edge_checks m t f = (m.size ≤ t, 2) ∷ (m.live t ≡ false, 3) ∷ (Taken m t f, 10) ∷ []

@@ -1,10 +1,10 @@
 // Tying the tuples of the edge to the new ones in switch 0.
 ghost use Rattle.std.specs.Prelude.{◌≡◌, true, MatchResult, ◌≢◌};
 ghost use Rattle.gmap.specs.Map.{Free};
-ghost use Rattle.splitting.specs.Edges.{Tieable};
-ghost use Rattle.splitting.specs.Stages.{EndTied, Ends};
-ghost use Rattle.splitting.specs.Wired.{Wired};
+ghost use Rattle.splitting.specs.Edges.{count, Tieable};
+ghost use Rattle.splitting.specs.Stages.{Retied, Ended};
 
+use crate::edge::Edge;
 use gmap::map::GMapMut;
 use gmap::refusal::Refusal;
 
@@ -14,7 +14,7 @@ fn tie_end<B: GMapMut>(board: &mut B, x: u16, y: u16) -> Result<(), Refusal>
     requires right { (B.Reads.meaning board.old).live y ≡ true }
     requires apart { x ≢ y }
     requires free { Free (B.Reads.meaning board.old) 0 y }
-    ensures { MatchResult result (λ _. Wired (EndTied (B.Reads.meaning board.old) x y) (B.Reads.meaning board.old) (B.Reads.meaning board.new)) (λ _. ⊥) }
+    ensures { MatchResult result (λ _. Retied x y (B.Reads.meaning board.old) (B.Reads.meaning board.new)) (λ _. ⊥) }
 {
     let partner = board.partner(0, x)?;
     if partner != x {
@@ -24,17 +24,12 @@ fn tie_end<B: GMapMut>(board: &mut B, x: u16, y: u16) -> Result<(), Refusal>
 }
 
 // Ties each tuple of the edge in switch 0 to its new tuple.
-pub fn tie_ends<B: GMapMut>(
-    board: &mut B,
-    f: u16,
-    members: &[u16],
-    count: u16,
-) -> Result<(), Refusal>
-    requires { Tieable (B.Reads.meaning board.old) f count members.now }
-    ensures { MatchResult result (λ _. Wired (Ends (B.Reads.meaning board.old) f count members.now count) (B.Reads.meaning board.old) (B.Reads.meaning board.new)) (λ _. ⊥) }
+pub fn tie_ends<B: GMapMut>(board: &mut B, edge: &Edge) -> Result<(), Refusal>
+    requires { Tieable (B.Reads.meaning board.old) edge.now }
+    ensures { MatchResult result (λ _. Ended (B.Reads.meaning board.old) edge.now (count edge.now) (B.Reads.meaning board.new)) (λ _. ⊥) }
 {
-    for k in 0..count {
-        tie_end(board, members[k as usize], f + k)?;
+    for x in edge.members {
+        tie_end(board, *x, edge.beside(*x))?;
     }
     Ok(())
 }

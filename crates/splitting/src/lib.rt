@@ -1,6 +1,7 @@
 // The call that splits an edge: a new vertex on it.
 #![tactic(auto)]
 
+mod edge;
 mod ends;
 mod links;
 mod slots;

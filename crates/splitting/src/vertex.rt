@@ -3,9 +3,10 @@ ghost use Rattle.std.specs.Prelude.{◌≡◌, ◌*◌, ◌<◌, ◌≤◌, leng
 ghost use Rattle.gmap.specs.Map.{Same};
 ghost use Rattle.gmap.specs.Outcome.{Outcome};
 ghost use Rattle.gmap.specs.Splitting.{split_checks, SplitAt};
-ghost use Rattle.splitting.specs.Edges.{Edge, Ranks, Vacancies, edge_checks};
+ghost use Rattle.splitting.specs.Edges.{count, Closed, Vacancies, edge_checks};
 ghost use Rattle.splitting.specs.Stages.{Grown};
 
+use crate::edge::Edge;
 use crate::ends::tie_ends;
 use crate::links::link_all;
 use crate::slots::{all_vacant, open_all};
@@ -13,22 +14,15 @@ use gmap::map::GMapMut;
 use gmap::refusal::Refusal;
 use questions::cell;
 
-// Puts the new tuples, which are numbered from f on, on the edge whose tuples are the first of the members.
-fn grow<B: GMapMut>(
-    board: &mut B,
-    f: u16,
-    members: &[u16],
-    count: u16,
-    ranks: &[u16],
-) -> Result<(), Refusal>
-    requires edge { Edge (B.Reads.meaning board.old) count members.now }
-    requires ranks { Ranks (B.Reads.meaning board.old) count members.now ranks.now }
-    requires vacant { Vacancies (B.Reads.meaning board.old) f count }
-    ensures { MatchResult result (λ _. Grown f count members.now ranks.now (B.Reads.meaning board.old) (B.Reads.meaning board.new)) (λ _. ⊥) }
+// Puts the new tuples on the edge.
+fn grow<B: GMapMut>(board: &mut B, edge: &Edge) -> Result<(), Refusal>
+    requires closed { Closed (B.Reads.meaning board.old) edge.now }
+    requires vacant { Vacancies (B.Reads.meaning board.old) edge.now.first (count edge.now) }
+    ensures { MatchResult result (λ _. Grown edge.now (B.Reads.meaning board.old) (B.Reads.meaning board.new)) (λ _. ⊥) }
 {
-    open_all(board, f, count)?;
-    link_all(board, f, members, count, ranks)?;
-    tie_ends(board, f, members, count)
+    open_all(board, edge)?;
+    link_all(board, edge)?;
+    tie_ends(board, edge)
 }
 
 // Splits the edge of t, with memory for its tuples and their places; answers how many new tuples there are.
@@ -50,7 +44,12 @@ fn add_vertex<B: GMapMut>(
     if !all_vacant(board, f, count) {
         return Err(Refusal::Occupied);
     }
-    grow(board, f, members, count, ranks)?;
+    let edge = Edge {
+        members: &members[..count as usize],
+        ranks,
+        first: f,
+    };
+    grow(board, &edge)?;
     Ok(count)
 }
 

@@ -1,6 +1,5 @@
-use Rattle.splitting.specs.Stages.{Ends}
-use Rattle.splitting.specs.Wired.{Wired}
+use Rattle.splitting.specs.Stages.{Ended}
 use Rattle.splitting.proofs.ends.tie_ends.Given as goal
 
-abbrev pub invariant-loop-k : goal.invariant-loop-k
-invariant-loop-k g l = Wired (Ends (g.B.Reads.meaning l.initial.board) l.f l.count l.members l.k) (g.B.Reads.meaning l.initial.board) (g.B.Reads.meaning l.board)
+abbrev pub invariant-loop-x : goal.invariant-loop-x
+invariant-loop-x g l = Ended (g.B.Reads.meaning l.initial.board) l.edge l.x-index (g.B.Reads.meaning l.board)

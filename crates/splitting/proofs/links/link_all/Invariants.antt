@@ -1,6 +1,5 @@
-use Rattle.splitting.specs.Stages.{AllNewLinks}
-use Rattle.splitting.specs.Wired.{Wired}
+use Rattle.splitting.specs.Stages.{AllLinked}
 use Rattle.splitting.proofs.links.link_all.Given as goal
 
 abbrev pub invariant-loop-j : goal.invariant-loop-j
-invariant-loop-j g l = Wired (AllNewLinks (g.B.Reads.meaning l.initial.board) l.f l.count l.members l.ranks l.j) (g.B.Reads.meaning l.initial.board) (g.B.Reads.meaning l.board)
+invariant-loop-j g l = AllLinked (g.B.Reads.meaning l.initial.board) l.edge l.j (g.B.Reads.meaning l.board)

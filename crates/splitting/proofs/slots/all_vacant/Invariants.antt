@@ -1,5 +1,5 @@
-use Rattle.splitting.specs.Edges.{Vacancies}
+use Rattle.std.proofs.Common.{ℕ, ◌≤◌, ◌<◌, ◌≡◌, false}
 use Rattle.splitting.proofs.slots.all_vacant.Given as goal
 
-abbrev pub invariant-loop-k : goal.invariant-loop-k
-invariant-loop-k g l = Vacancies (g.C.Reads.meaning l.map) l.f l.k
+abbrev pub invariant-loop-x : goal.invariant-loop-x
+invariant-loop-x g l = (x : ℕ) → l.f ≤ x → x < l.x → (x < (g.C.Reads.meaning l.map).size) × ((g.C.Reads.meaning l.map).live x ≡ false)

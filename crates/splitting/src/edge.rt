@@ -1,0 +1,25 @@
+// The edge that is split, and the numbers of the new tuples.
+ghost use Rattle.std.specs.Prelude.{◌≡◌, ℕ, ◌+◌, ◌<◌, ◌≤◌, length, slice_index};
+ghost use Rattle.gmap.specs.Listing.{Among};
+
+// The tuples of the edge, the place of each in their list, and the first of the numbers of the new tuples.
+// A new tuple stands beside each of the edge; they are numbered upwards in the order of the list.
+#[derive(Drop)]
+pub struct Edge<'a> {
+    pub members: &'a [u16],
+    pub ranks: &'a [u16],
+    pub first: u16,
+    ghost fits: { first + length members.now ≤ 4096 },
+    ghost inside: { (k : ℕ) → k < length members.now → slice_index members.now k < length ranks.now },
+    ghost ranked: { (k : ℕ) → k < length members.now → slice_index ranks.now (slice_index members.now k) ≡ k },
+}
+
+impl Edge<'_> {
+    // The number of the new tuple beside tuple x of the edge.
+    pub fn beside(&self, x: u16) -> u16
+        requires { Among self.now.members.now (length self.now.members.now) x }
+        ensures { (k : ℕ) → k < length self.now.members.now → slice_index self.now.members.now k ≡ x → result ≡ self.now.first + k }
+    {
+        self.first + self.ranks[x as usize]
+    }
+}
