@@ -3,3 +3,4 @@ pub mod Cuts
 mod Digits
 mod Lines
 mod Firsts
+mod Numbers

@@ -15,5 +15,5 @@ returns-in_default c = search (rules, no_senses)
 
 pub returns : goal.returns
 returns c =
-    let value = c.fill.ensures ∙ first_at asked_of c.args.words.now _ (search rules) (ap₂ begun_of c.in_ok-order.ensures refl) in
+    let value = c.fill.ensures ∙ first_at asked_of c.args.words.now _ (search rules) (ap₂ begun_of c.in_ok-command.ensures refl) in
     record { value = value; form = form_is _ _ value }

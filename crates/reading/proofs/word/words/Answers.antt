@@ -19,8 +19,8 @@ loop-rest-smaller c = search (rules, length_behind)
 pub loop-rest-preserved : goal.loop-rest-preserved
 loop-rest-preserved c =
     let cut = c.split_first.ensures in
-    let more = pushed (c.read_word.result ∷ []) refl c.in_ok-push.was c.push.ensures.items in
-    reading_more _ _ _ _ _ _ c.loop-rest.invariant (search rules) cut.front cut.back (search rules) _ refl refl _ (rw c.read_word.ensures at more)
+    let more = pushed (c.read.result ∷ []) refl c.in_ok-push.was c.push.ensures.items in
+    reading_more _ _ _ _ _ _ c.loop-rest.invariant (search rules) cut.front cut.back (search rules) _ refl refl _ (rw c.read.ensures at more)
 
 pub returns : goal.returns
 returns c = search (rules, reading_done)
