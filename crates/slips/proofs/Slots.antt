@@ -35,7 +35,7 @@ module _ {top size : ℕ} {rs : List Record} {t : ℕ} {live : Bool} {r : Record
   other_live : (j l x : ℕ) → Named top size rs j l x → living (set rs t r) size x ≡ true
   other_live j l x h =
       let n : x ≡ t → ⊥ = λ e. let P : ℕ → Type 0 = λ z. Named top size rs j l z in named_linked sound j l t (subst P e h) (free j) in
-      new_live x ∙ rw (ne_eqb x t n) (sound.alive (j, l, x) h)
+      new_live x ∙ rw (ne_eqb x t n) (sound.alive j l x h)
 
   belongs_here : belongs top size t r ≡ true
   belongs_here = elim marks [ inl p ↦ rw p.1 (lt-ltb t size below) | inr p ↦ rw p.1 refl ]
@@ -46,9 +46,9 @@ module _ {top size : ℕ} {rs : List Record} {t : ℕ} {live : Bool} {r : Record
     few = sound.few;
     room = rw (length-set rs t r) sound.room;
     tidy = belongs_set top size rs t r inside belongs_here sound.tidy;
-    alive = λ p h. other_live p.0 p.1 p.2 (was p.0 p.1 p.2 h);
-    apart = λ p h e. sound.apart p (was p.0 p.1 p.2 h) (ap (other p.2) (sym (still p.0 p.1)) ∙ e);
-    single = λ p w. sound.single p (record { end = w.end; one = was p.0 p.1 w.end w.one; two = was p.0 p.2 w.end w.two });
+    alive = λ i k x h. other_live i k x (was i k x h);
+    apart = λ i k x h e. sound.apart i k x (was i k x h) (ap (other x) (sym (still i k)) ∙ e);
+    single = λ i k l w. sound.single i k l (record { end = w.end; one = was i k w.end w.one; two = was i l w.end w.two });
   }
 
   same_partner : (j x : ℕ) → (slips_map top size (set rs t r)).partner j x ≡ (slips_map top size rs).partner j x
