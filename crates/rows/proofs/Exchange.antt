@@ -2,11 +2,11 @@
 use Rattle.std.proofs.Common.{◌≡◌, ℕ, ◌+◌, ◌*◌, ◌<◌, true, ltb, List, length, sym, refl, ◌∙◌}
 use Rattle.std.specs.List.{SwappedAt}
 use Rattle.std.proofs.lemmas.Bool.{le-leb, lt-ltb, and_parts}
-use Rattle.rows.specs.Changes.{FreeOrPartners, Exchanged}
+use Rattle.rows.specs.Changes.{FreeOrPartners}
 use Rattle.rows.specs.Numbers.{number_at, holds, rows_map, Sound}
 use Rattle.rows.proofs.Keeps.{holds_same, partner_same, keeps}
 use Rattle.rows.specs.Law.{rows_partners}
-use Rattle.rows.proofs.Pairs.{by_place, exchange_back}
+use Rattle.rows.proofs.Pairs.{Exchanged, by_place, exchange_back}
 use Rattle.rows.proofs.Places.{Off, one_place}
 
 module _ {top size : ℕ} {xs ys : List ℕ} {i t u p q : ℕ} (sound : Sound top size xs) (pair : FreeOrPartners (rows_map top size xs) i t u) (long : length ys ≡ length xs) (at_p : p ≡ i * size + t) (at_q : q ≡ i * size + u) (is : SwappedAt xs ys p q) where

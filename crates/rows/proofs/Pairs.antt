@@ -2,10 +2,17 @@
 use Rattle.std.proofs.Common.{◌≡◌, ℕ, false, cond, ◌&&◌, eqb, sym, refl, ap, ◌∙◌, inl, inr, arith}
 use Rattle.std.proofs.lemmas.Bool.{cases_eq, eq-eqb, ne_eqb}
 use Rattle.std.proofs.lemmas.Bool.Decides.{nat_tests}
-use Rattle.gmap.specs.Map.{Map, Partners, Same, Free}
+use Rattle.gmap.specs.Map.{Map, Partners, Same, Free, DiffersIn}
 use Rattle.gmap.specs.Acts.{tied, untied}
-use Rattle.rows.specs.Changes.{FreeOrPartners, Exchanged}
+use Rattle.rows.specs.Changes.{FreeOrPartners}
 use Rattle.rows.proofs.Places.{Off}
+
+-- t and u have each other's partners, and nothing else is changed
+pub record Exchanged (m : Map) (i t u : ℕ) (m' : Map) : Type 0 where
+  pub frame : DiffersIn i m m'
+  pub one : m'.partner i t ≡ m.partner i u
+  pub two : m'.partner i u ≡ m.partner i t
+  pub rest : (x : ℕ) → (x ≡ t → ⊥) → (x ≡ u → ⊥) → m'.partner i x ≡ m.partner i x
 
 -- what holds at t and u in switch i, and off both, holds everywhere
 pub by_place : (P : ℕ → ℕ → Type 0) (i t u : ℕ) → P i t → P i u → ((j x : ℕ) → Off i t j x → Off i u j x → P j x) → (j x : ℕ) → P j x

@@ -1,16 +1,12 @@
 -- A slot that is linked in no switch and becomes a tuple or vacant: what the numbers then hold.
-use Rattle.std.proofs.Common.{◌≡◌, ℕ, ◌+◌, ◌<◌, ◌≤◌, Bool, true, false, cond, ◌&&◌, eqb, leb, ◌⊎◌, List, sym, refl, ◌∙◌, inl, inr, zero-le, arith}
-use Rattle.std.proofs.lemmas.Bool.{cases_eq, cases_lt, lt-ltb, lt-leb, eq-eqb, ne_eqb, and_right, cond_both}
+use Rattle.std.proofs.Common.{◌≡◌, ℕ, ◌+◌, ◌<◌, ◌≤◌, Bool, false, cond, ◌&&◌, eqb, leb, List, sym, refl, ◌∙◌, inl, inr, zero-le, arith}
+use Rattle.std.proofs.lemmas.Bool.{cases_Bool, cases_eq, cases_lt, lt-ltb, lt-leb, eq-eqb, ne_eqb, and_right, cond_both}
 use Rattle.gmap.specs.Map.{Same, Free}
 use Rattle.gmap.specs.Acts.{marked}
 use Rattle.rows.specs.Numbers.{number_at, holds, rows_map, Sound, Filled}
 use Rattle.rows.proofs.Keeps.{not_vacant, holds_same, partner_same, keeps}
 
--- v is the number of a free tuple t, or of a vacant slot
-abbrev pub Marks : ℕ → Bool → ℕ → Type 0
-Marks t live v = ((live ≡ true) × (v ≡ t)) ⊎ ((live ≡ false) × (v ≡ 65535))
-
-module _ {top size : ℕ} {xs ys : List ℕ} {t : ℕ} {live : Bool} {v : ℕ} (sound : Sound top size xs) (below : t < size) (free : (j : ℕ) → Free (rows_map top size xs) j t) (marks : Marks t live v) (filled : Filled (top + 1) size t v xs ys) where
+module _ {top size : ℕ} {xs ys : List ℕ} {t v : ℕ} (live : Bool) (sound : Sound top size xs) (below : t < size) (free : (j : ℕ) → Free (rows_map top size xs) j t) (is : v ≡ cond live t 65535) (filled : Filled (top + 1) size t v xs ys) where
   others : (j x : ℕ) → (x ≡ t → ⊥) → x < size → number_at ys size j x ≡ number_at xs size j x
   others j x n l = filled.others j x l (λ p. n p.1)
 
@@ -20,10 +16,7 @@ module _ {top size : ℕ} {xs ys : List ℕ} {t : ℕ} {live : Bool} {v : ℕ} (
   new_holds : (j x : ℕ) → j ≤ top → holds ys size j x ≡ cond (eqb x t) live (holds xs size 0 x)
   new_holds j x h =
       elim (cases_eq x t) [
-        | inl e ↦ rw (e, eq-eqb t t refl, lt-ltb t size below, here j h) (elim marks [
-          | inl p ↦ rw (p.0, p.1, not_vacant sound.few below) refl
-          | inr p ↦ rw (p.0, p.1) refl
-        ])
+        | inl e ↦ rw (e, eq-eqb t t refl, lt-ltb t size below, here j h, is) (elim (cases_Bool live) [ inl y ↦ rw (y, not_vacant sound.few below) refl | inr z ↦ rw z refl ])
         | inr n ↦ rw (ne_eqb x t n) (holds_same size xs ys j x (others j x n) ∙ sound.alike j x h)
       ]
 
@@ -32,9 +25,9 @@ module _ {top size : ℕ} {xs ys : List ℕ} {t : ℕ} {live : Bool} {v : ℕ} (
       let live_is : holds ys size 0 t ≡ live = new_holds 0 t zero-le ∙ rw (eq-eqb t t refl) refl in
       elim (cases_lt top j) [
         | inl h ↦ rw (lt-leb j top h) refl
-        | inr h ↦ elim marks [
-          | inl p ↦ rw (here j h, p.1) (cond_both (leb j top && holds ys size 0 t) t t (λ z. z ≡ t) (λ _. refl) (λ _. refl))
-          | inr p ↦ rw (live_is, p.0, and_right (leb j top) false refl) refl
+        | inr h ↦ elim (cases_Bool live) [
+          | inl y ↦ rw (here j h, is, y) (cond_both (leb j top && holds ys size 0 t) t t (λ z. z ≡ t) (λ _. refl) (λ _. refl))
+          | inr z ↦ rw (live_is, z, and_right (leb j top) false refl) refl
         ]
       ]
 

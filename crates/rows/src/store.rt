@@ -1,6 +1,8 @@
 // How rows are written.
-ghost use Rattle.std.specs.Prelude.{◌*◌, ◌<◌, ◌≤◌, length};
-ghost use Rattle.rows.specs.Changes.{FreeOrPartners, Exchanged};
+ghost use Rattle.std.specs.Prelude.{◌≡◌, ◌*◌, ◌<◌, ◌≤◌, if◌then◌else◌, length};
+ghost use Rattle.gmap.specs.Acts.{tied, untied};
+ghost use Rattle.gmap.specs.Map.{Free, Same};
+ghost use Rattle.rows.specs.Changes.{FreeOrPartners};
 ghost use Rattle.rows.specs.Meaning.{map_of};
 ghost use Rattle.rows.specs.Numbers.{Filled};
 
@@ -9,31 +11,37 @@ use gmap::store::Store;
 
 impl<'a> Store for Rows<'a> {
     fn mark(&mut self, t: u16, live: bool) {
-        let number = if live { t } else { VACANT };
-        fill(&mut *self.numbers, self.top + 1, self.size, t, number);
+        let v = number(t, live);
+        fill(&mut *self.numbers, self.top + 1, self.size, t, v);
     }
 
-    // Each is its own partner, and the other's after the exchange.
     fn link(&mut self, i: u16, t: u16, u: u16) {
         self.exchange(i, t, u);
     }
 
-    // Each is the other's partner, and its own after the exchange.
     fn unlink(&mut self, i: u16, t: u16, u: u16) {
         self.exchange(i, t, u);
     }
 }
 
 impl Rows<'_> {
-    // Exchanges the partners in switch i of t and u, which are free in it or each other's partners.
+    // Exchanges the partners of t and u in switch i: free tuples become partners, and partners become free.
     fn exchange(&mut self, i: u16, t: u16, u: u16)
         requires { FreeOrPartners (map_of self.old) i t u }
-        ensures { Exchanged (map_of self.old) i t u (map_of self.new) }
+        ensures free { (Free (map_of self.old) i t) × (Free (map_of self.old) i u) → Same (map_of self.new) (tied (map_of self.old) i t u) }
+        ensures partners { (map_of self.old).partner i t ≡ u → Same (map_of self.new) (untied (map_of self.old) i t) }
     {
         let p = self.place(i, t);
         let q = self.place(i, u);
         self.numbers.swap(p, q);
     }
+}
+
+// The number of a slot that is free in every switch: its own if it is live.
+fn number(t: u16, live: bool) -> u16
+    ensures { result ≡ if live then t else 65535 }
+{
+    if live { t } else { VACANT }
 }
 
 // Writes v for slot t in each of the first rows.

@@ -93,9 +93,9 @@ room_left {top} {size} {rs} {i} {t} {u} sound two free full =
     let named : (k x : ℕ) → k < size / 2 → names x (link_at rs size i k) ≡ true → Named top size rs i k x = λ k x h e. record { switch = two.switch; within = h; named = e } in
     not_crowded size (size / 2) t u (link_at rs size i) (record {
       halved = omega arith;
-      inside = λ k x h e. inside sound x (sound.alive (i, k, x) (named k x h e));
-      apart = λ k x h e. sound.apart (i, k, x) (named k x h e);
-      single = λ k l x h g e f. sound.single (i, k, l) (record { end = x; one = named k x h e; two = named l x g f });
+      inside = λ k x h e. inside sound x (sound.alive i k x (named k x h e));
+      apart = λ k x h e. sound.apart i k x (named k x h e);
+      single = λ k l x h g e f. sound.single i k l (record { end = x; one = named k x h e; two = named l x g f });
       t_below = inside sound t two.one;
       u_below = inside sound u two.two;
       differ = two.apart;

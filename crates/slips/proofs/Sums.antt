@@ -34,10 +34,10 @@ pub record Placed (test : ℕ → Bool) (number : ℕ → ℕ) (n x : ℕ) : Typ
 abbrev pub passing : (ℕ → Bool) → ℕ → ℕ
 passing test n = up_to (λ k. cond (test k) 1 0) n
 
-pub count_one : (test : ℕ → Bool) (n : ℕ) → test n ≡ true → passing test (suc n) ≡ passing test n + 1
+count_one : (test : ℕ → Bool) (n : ℕ) → test n ≡ true → passing test (suc n) ≡ passing test n + 1
 count_one test n y = ap (λ c. passing test n + c) (cond-true (test n) 1 0 y)
 
-pub count_none : (test : ℕ → Bool) (n : ℕ) → test n ≡ false → passing test (suc n) ≡ passing test n
+count_none : (test : ℕ → Bool) (n : ℕ) → test n ≡ false → passing test (suc n) ≡ passing test n
 count_none test n z = ap (λ c. passing test n + c) (cond-false (test n) 1 0 z) ∙ add-zero (passing test n)
 
 -- a filter keeps as many elements as pass

@@ -51,7 +51,7 @@ module _ {top size : ℕ} {rs : List Record} (sound : Sound top size rs) where
   lower_leads i s x p =
       let P : ℕ → Type 0 = λ z. Named top size rs i p.place z in
       let named : Named top size rs i p.place x = subst P p.is (lower_named i p.place s p.within p.passes) in
-      rw (named_partner sound i p.place x named) (lower_below x (link_at rs size i p.place) p.is named.named (sound.apart (i, p.place, x) named))
+      rw (named_partner sound i p.place x named) (lower_below x (link_at rs size i p.place) p.is named.named (sound.apart i p.place x named))
 
   leads_lower : (i x : ℕ) → x < m.partner i x → Lower i x
   leads_lower i x l =
@@ -65,7 +65,7 @@ module _ {top size : ℕ} {rs : List Record} (sound : Sound top size rs) where
   lower_apart : (i : ℕ) → i ≤ top → (k l : ℕ) → k < l → l < size / 2 → (says_something (link_at rs size i k) ≡ true) × (says_something (link_at rs size i l) ≡ true) → lower (link_at rs size i k) ≡ lower (link_at rs size i l) → ⊥
   lower_apart i s k l h b y e =
       let P : ℕ → Type 0 = λ z. Named top size rs i k z in
-      let q : k ≡ l = sound.single (i, k, l) (record { end = lower (link_at rs size i l); one = subst P e (lower_named i k s (omega (arith, h, b)) y.0); two = lower_named i l s b y.1 }) in
+      let q : k ≡ l = sound.single i k l (record { end = lower (link_at rs size i l); one = subst P e (lower_named i k s (omega (arith, h, b)) y.0); two = lower_named i l s b y.1 }) in
       omega (arith, h, q)
 
   links_counted : (i : ℕ) → i ≤ top → Counts (λ t. t < m.partner i t) (up_to (λ k. mark (size + i * (size / 2) + k)) (size / 2))

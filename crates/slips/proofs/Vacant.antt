@@ -26,7 +26,7 @@ module _ (n : ℕ) (rs : List Record) (is : rs ≡ replicate n Unused) where
     few = let h : 4096 < size → ⊥ = λ l. fits (inr (inl l)) in omega arith;
     room = let h : n < slips_need top size → ⊥ = λ l. fits (inr (inr l)) in rw (is, length-replicate) (omega arith);
     tidy = λ p. rw (unused p) refl;
-    alive = λ p h. absurd (none top size p.0 p.1 p.2 h);
-    apart = λ p h e. none top size p.0 p.1 p.2 h;
-    single = λ p w. absurd (none top size p.0 p.1 w.end w.one);
+    alive = λ i k x h. absurd (none top size i k x h);
+    apart = λ i k x h e. none top size i k x h;
+    single = λ i k l w. absurd (none top size i k w.end w.one);
   }

@@ -74,15 +74,15 @@ module _ {top size : ℕ} {rs : List Record} {i k p : ℕ} {r : Record} (sound :
   alone j l x a m h n = both_ways (names x (link_at rs size i l)) (ok.alone l x h.within n m) (sym (ap (λ z. names x (link_at rs size z l)) a.0) ∙ h.named)
 
   single : Single top size ss
-  single p w =
-      elim (was p.0 p.1 w.end w.one) [
-        | inl a ↦ elim (was p.0 p.2 w.end w.two) [
+  single j l l' w =
+      elim (was j l w.end w.one) [
+        | inl a ↦ elim (was j l' w.end w.two) [
           | inl b ↦ a.0.1 ∙ sym b.0.1
-          | inr b ↦ absurd (alone p.0 p.2 w.end (a.0.0, refl) a.1 b.0 (λ e. b.1 (a.0.0, e)))
+          | inr b ↦ absurd (alone j l' w.end (a.0.0, refl) a.1 b.0 (λ e. b.1 (a.0.0, e)))
         ]
-        | inr a ↦ elim (was p.0 p.2 w.end w.two) [
-          | inl b ↦ absurd (alone p.0 p.1 w.end (b.0.0, refl) b.1 a.0 (λ e. a.1 (b.0.0, e)))
-          | inr b ↦ sound.single p (record { end = w.end; one = a.0; two = b.0 })
+        | inr a ↦ elim (was j l' w.end w.two) [
+          | inl b ↦ absurd (alone j l w.end (b.0.0, refl) b.1 a.0 (λ e. a.1 (b.0.0, e)))
+          | inr b ↦ sound.single j l l' (record { end = w.end; one = a.0; two = b.0 })
         ]
       ]
 
@@ -92,10 +92,10 @@ module _ {top size : ℕ} {rs : List Record} {i k p : ℕ} {r : Record} (sound :
     few = sound.few;
     room = rw (at, length-set) sound.room;
     tidy = rw at (belongs_set top size rs (size + i * (size / 2) + k) r inside (link_belongs top size i k r switch within ok.kind) sound.tidy);
-    alive = λ p h. live p.2 ∙ elim (was p.0 p.1 p.2 h) [ inl a ↦ ok.tuples p.2 a.1 | inr a ↦ sound.alive p a.0 ];
-    apart = λ p h e. elim (was p.0 p.1 p.2 h) [
-      | inl a ↦ ok.differ p.2 a.1 (ap (other p.2) (sym (here p.0 p.1 a.0)) ∙ e)
-      | inr a ↦ sound.apart p a.0 (ap (other p.2) (sym (else p.0 p.1 h.within a.1)) ∙ e)
+    alive = λ j l x h. live x ∙ elim (was j l x h) [ inl a ↦ ok.tuples x a.1 | inr a ↦ sound.alive j l x a.0 ];
+    apart = λ j l x h e. elim (was j l x h) [
+      | inl a ↦ ok.differ x a.1 (ap (other x) (sym (here j l a.0)) ∙ e)
+      | inr a ↦ sound.apart j l x a.0 (ap (other x) (sym (else j l h.within a.1)) ∙ e)
     ];
     single = single;
   }
@@ -131,7 +131,7 @@ module _ {top size : ℕ} {rs : List Record} {i k p : ℕ} {r : Record} (sound :
       unnamed link_sound i x (λ l g. elim (cases_at i k i l) [
         | inl p ↦ ap (names x) (here i l p) ∙ new
         | inr n ↦ ap (names x) (else i l g n) ∙ elim (cases_Bool (names x (link_at rs size i l))) [
-          | inl y ↦ absurd (n (refl, sound.single (i, l, k) (record { end = x; one = record { switch = switch; within = g; named = y }; two = record { switch = switch; within = within; named = old } })))
+          | inl y ↦ absurd (n (refl, sound.single i l k (record { end = x; one = record { switch = switch; within = g; named = y }; two = record { switch = switch; within = within; named = old } })))
           | inr z ↦ z
         ]
       ])

@@ -59,15 +59,14 @@ belongs top size p (Link t u) = nat_le size p && nat_lt p (slips_need top size)
 abbrev pub Tidy : ℕ → ℕ → List Record → Type 0
 Tidy top size rs = (p : ℕ) → belongs top size p (slice_index_or rs p Unused) ≡ true
 
--- The three numbers of each of the following come as one, since a ghost field may have few arrows.
 abbrev pub Alive : ℕ → ℕ → List Record → Type 0
-Alive top size rs = (p : ℕ × ℕ × ℕ) → Named top size rs p.0 p.1 p.2 → living rs size p.2 ≡ true
+Alive top size rs = (i k x : ℕ) → Named top size rs i k x → living rs size x ≡ true
 
 abbrev pub Apart : ℕ → ℕ → List Record → Type 0
-Apart top size rs = (p : ℕ × ℕ × ℕ) → Named top size rs p.0 p.1 p.2 → other p.2 (link_at rs size p.0 p.1) ≢ p.2
+Apart top size rs = (i k x : ℕ) → Named top size rs i k x → other x (link_at rs size i k) ≢ x
 
 abbrev pub Single : ℕ → ℕ → List Record → Type 0
-Single top size rs = (p : ℕ × ℕ × ℕ) → Twice top size rs p.0 p.1 p.2 → p.1 ≡ p.2
+Single top size rs = (i k l : ℕ) → Twice top size rs i k l → k ≡ l
 
 pub record Sound (top size : ℕ) (rs : List Record) : Type 0 where
   pub low : top ≤ 7

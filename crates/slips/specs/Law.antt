@@ -23,7 +23,7 @@ module _ {top size : ℕ} {rs : List Record} (sound : Sound top size rs) where
   pub named_partner : (i k x : ℕ) → Named top size rs i k x → m.partner i x ≡ other x (link_at rs size i k)
   named_partner i k x h =
       rw (le-leb i top h.switch) (opposite_at (link_at rs size i) x (size / 2) k
-      (λ l g y. sound.single (i, l, k) (record { end = x; one = record { switch = h.switch; within = g; named = y }; two = h })) h.within h.named)
+      (λ l g y. sound.single i l k (record { end = x; one = record { switch = h.switch; within = g; named = y }; two = h })) h.within h.named)
 
   -- as the record at place p says
   pub partner_read : (i k x p v : ℕ) → Named top size rs i k x → p ≡ size + i * (size / 2) + k → v ≡ other x (slice_index_or rs p Unused) → v ≡ m.partner i x
@@ -40,7 +40,7 @@ module _ {top size : ℕ} {rs : List Record} (sound : Sound top size rs) where
       ]
 
   pub named_linked : (i k x : ℕ) → Named top size rs i k x → Free m i x → ⊥
-  named_linked i k x h e = sound.apart (i, k, x) h (sym (named_partner i k x h) ∙ e)
+  named_linked i k x h e = sound.apart i k x h (sym (named_partner i k x h) ∙ e)
 
   pub free_unnamed : (i x : ℕ) → i ≤ top → Free m i x → (k : ℕ) → k < size / 2 → names x (link_at rs size i k) ≡ false
   free_unnamed i x h e k l =
@@ -67,8 +67,8 @@ module _ {top size : ℕ} {rs : List Record} (sound : Sound top size rs) where
       | inl e ↦ ap m.live e
       | inr p ↦
           ap m.live (named_partner i p.0 x p.1)
-          ∙ (sound.alive (i, p.0, other x (link_at rs size i p.0)) (named_other i p.0 x p.1) ∙ sym (sound.alive (i, p.0, x) p.1))
+          ∙ (sound.alive i p.0 (other x (link_at rs size i p.0)) (named_other i p.0 x p.1) ∙ sym (sound.alive i p.0 x p.1))
     ];
-    still = λ i x e. elim (free_or_named i x) [ inl h ↦ h | inr p ↦ absurd (both_ways (m.live x) e (sound.alive (i, p.0, x) p.1)) ];
+    still = λ i x e. elim (free_or_named i x) [ inl h ↦ h | inr p ↦ absurd (both_ways (m.live x) e (sound.alive i p.0 x p.1)) ];
     high = high;
   }

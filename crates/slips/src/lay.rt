@@ -30,6 +30,7 @@ pub fn lay_out<'a>(memory: &'a mut [Record], top: u16, size: u16) -> Slips<'a>
 }
 
 // Slips of that top and size, every slot vacant.
+#[tactic(auto, using(crate::proofs::Vacant::vacant_sound, crate::proofs::Vacant::vacant_fresh))]
 fn empty<'a>(memory: &'a mut [Record], top: u16, size: u16) -> Slips<'a>
     requires { TooLarge (length memory.old) (slips_need top size) top size → ⊥ }
     ensures fresh { Fresh (map_of result) }

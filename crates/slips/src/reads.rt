@@ -1,4 +1,6 @@
 // What slips answer. A look at a partner goes through the records of its switch.
+ghost use Rattle.std.specs.Prelude.{◌≡◌, length, filter};
+ghost use Rattle.slips.specs.Links.{says_something};
 ghost use Rattle.slips.specs.Meaning.{map_of};
 ghost use Rattle.slips.specs.Uses.{Uses};
 ghost use Rattle.slips.specs.Law.{slips_partners};
@@ -43,9 +45,17 @@ impl<'a> GMap for Slips<'a> {
 
 impl Slips<'_> {
     // How many records are in use: one for each tuple and one for each link.
+    #[tactic(auto, using(crate::proofs::Usage::slips_use))]
     pub fn used(&self) -> usize
         ensures { Uses (map_of self.now) result }
     {
-        self.records.iter().filter(|r| r.is_used()).count()
+        count_used(self.records)
     }
+}
+
+// How many of some records are in use.
+fn count_used(records: &[Record]) -> usize
+    ensures { result ≡ length (filter says_something records.now) }
+{
+    records.iter().filter(|r| r.is_used()).count()
 }

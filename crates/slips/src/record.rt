@@ -1,6 +1,7 @@
 // One record, and what it says.
-ghost use Rattle.std.specs.Prelude.{◌≡◌};
+ghost use Rattle.std.specs.Prelude.{◌≡◌, if◌then◌else◌};
 ghost use Rattle.slips.specs.Links.{says_something, names, other};
+ghost use Rattle.slips.specs.declared.record.Record.TheVariants.{Unused, Slot};
 
 // A record tells by its place of which slot or of which switch it speaks.
 #[derive(Clone, Copy, PartialEq, Eq, Debug)]
@@ -14,6 +15,13 @@ pub enum Record {
 }
 
 impl Record {
+    // The record of a slot that is linked in no switch.
+    pub(crate) fn of_slot(live: bool) -> Record
+        ensures { result ≡ if live then Slot else Unused }
+    {
+        if live { Record::Slot } else { Record::Unused }
+    }
+
     // Whether the record says anything.
     pub(crate) fn is_used(self) -> bool
         ensures { result ≡ says_something self }

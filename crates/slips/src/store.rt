@@ -4,8 +4,9 @@ use crate::slips::Slips;
 use gmap::store::Store;
 
 impl<'a> Store for Slips<'a> {
+    #[tactic(auto, using(crate::proofs::Slots::slot_same))]
     fn mark(&mut self, t: u16, live: bool) {
-        self.records[t as usize] = if live { Record::Slot } else { Record::Unused };
+        self.records[t as usize] = Record::of_slot(live);
     }
 
     // The block of two free tuples has an unused record.
