@@ -100,19 +100,14 @@ impl<'l, 'p> Found<'l, 'p> {
         ensures orbit { Collected (C.Reads.meaning tuple.now.map.now) (via switches) tuple.now.slot self.new.count self.new.list.now }
         ensures same_list { self.new.list.ghost_name ≡ self.old.list.ghost_name }
     {
+        let map = tuple.map;
         self.count = 0;
         self.add(tuple.slot);
         let mut done = 0;
         // by index, since the list grows while it is walked
         while done < self.count {
             let slot = self.list[done as usize];
-            self.expand(
-                &Tuple {
-                    map: tuple.map,
-                    slot,
-                },
-                switches,
-            );
+            self.expand(&Tuple { map, slot }, switches);
             done += 1;
         }
     }
