@@ -1,5 +1,5 @@
 -- The search: what one tuple adds, what those looked at have added, and that this is the orbit.
-use Rattle.std.proofs.Common.{◌≡◌, ℕ, ◌+◌, ◌<◌, ◌≤◌, List, length, get_or, sym, refl, ap, ◌∙◌, subst, ⊎_elim, arith, below_more}
+use Rattle.std.proofs.Common.{◌≡◌, ℕ, ◌+◌, ◌<◌, ◌≤◌, List, length, get_or, sym, ap, ◌∙◌, subst, ⊎_elim, arith, below_more}
 use Rattle.std.proofs.lemmas.Bool.{cases_lt}
 use Rattle.gmap.specs.Map.{Map, Partners}
 use Rattle.gmap.specs.Orbits.{Orbit, here, step}
@@ -9,9 +9,6 @@ use Rattle.questions.proofs.Sets.{kept_apart}
 
 pub among_more : (xs xs' : List ℕ) (n n' x : ℕ) → n ≤ n' → ((k : ℕ) → k < n → get_or xs' k 0 ≡ get_or xs k 0) → Among xs n x → Among xs' n' x
 among_more xs xs' n n' x le same (k, h, e) = (k, omega arith, same k h ∙ e)
-
-pub spread_none : (m : Map) (via : ℕ → Type 0) (u : ℕ) (xs : List ℕ) (n : ℕ) → Spread m via u 0 xs n xs n
-spread_none m via u xs n = record { long = refl; grows = omega arith; same = λ k h. refl; there = λ i h on. absurd (omega arith); new = λ k p q. absurd (omega arith) }
 
 module _ (m : Map) (via : ℕ → Type 0) (u j : ℕ) (xs : List ℕ) (n : ℕ) (xs' : List ℕ) (n' : ℕ) (s : Spread m via u j xs n xs' n') where
   pub spread_skip : (via j → ⊥) → Spread m via u (j + 1) xs n xs' n'

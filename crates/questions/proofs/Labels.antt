@@ -1,12 +1,12 @@
 -- Labelling the cells of a map, slot by slot upwards.
-use Rattle.std.proofs.Common.{◌≡◌, ℕ, ◌+◌, ◌<◌, ◌≤◌, true, List, length, get_or, sym, refl, ◌∙◌, subst, inl, inr, ⊎_elim, arith}
+use Rattle.std.proofs.Common.{◌≡◌, ℕ, ◌+◌, ◌<◌, ◌≤◌, true, List, length, get_or, sym, ◌∙◌, subst, inl, inr, ⊎_elim, arith}
 use Rattle.std.proofs.lemmas.Bool.{cases_eq, cases_lt, both_ways}
 use Rattle.gmap.specs.Map.{Map, Partners}
 use Rattle.gmap.specs.Orbits.{here, Cell}
 use Rattle.gmap.specs.Listing.{Among, Counts}
 use Rattle.gmap.specs.Asking.{Lowest, Labelled}
 use Rattle.gmap.proofs.Orbits.{orbit_live, orbit_trans, orbit_back}
-use Rattle.gmap.proofs.Counting.{counts_none, counts_like, counts_more}
+use Rattle.gmap.proofs.Counting.{counts_like, counts_more}
 use Rattle.gmap.proofs.Listing.{among_cases}
 use Rattle.questions.specs.Search.{Collected}
 use Rattle.questions.specs.Marks.{Marked, Unlabelled}
@@ -23,17 +23,6 @@ pub record Labelling (m : Map) (i t n : ℕ) (old new : List ℕ) : Type 0 where
   pub blank : (x : ℕ) → x < m.size → get_or new x 0 ≡ 65535 → (s : ℕ) → s < t → m.live s ≡ true → Cell m i s x → ⊥
   pub count : Counts (Leads m i t) n
   pub few : n ≤ t
-
-pub labelling_none : (m : Map) (i : ℕ) (old new : List ℕ) → Marked (λ x. x < m.size) 65535 old new → Labelling m i 0 0 new new
-labelling_none m i old new s =
-    record {
-      long = refl;
-      behind = λ k h. refl;
-      named = λ x l q. absurd (q (s.there x l));
-      blank = λ x l q s h. absurd (omega arith);
-      count = counts_none (Leads m i 0) (λ x h. omega (arith, h.0));
-      few = omega arith;
-    }
 
 module _ (m : Map) (law : Partners m) (i t n : ℕ) (old new : List ℕ) (s : Labelling m i t n old new) where
   -- a tuple that has a label has a lower one in its cell, which had been met before

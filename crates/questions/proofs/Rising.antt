@@ -1,5 +1,5 @@
 -- Writing the numbers of a set upwards.
-use Rattle.std.proofs.Common.{◌≡◌, ℕ, ◌+◌, ◌<◌, List, length, get_or, set, sym, refl, ◌∙◌, subst, arith, below_more}
+use Rattle.std.proofs.Common.{◌≡◌, ℕ, ◌+◌, ◌<◌, List, length, get_or, set, sym, ◌∙◌, subst, arith, below_more}
 use Rattle.std.proofs.lemmas.List.{length-set, get_or-set_same, get_or-set_other}
 use Rattle.gmap.specs.Listing.{Among, Listed}
 
@@ -9,9 +9,6 @@ listed_like P Q n old new to fro s = record { fits = s.fits; long = s.long; rise
 -- the numbers of P below b
 abbrev pub Upto : (ℕ → Type 0) → ℕ → ℕ → Type 0
 Upto P b x = (x < b) × P x
-
-pub listed_none : (P : ℕ → Type 0) (xs : List ℕ) → Listed (Upto P 0) 0 xs xs
-listed_none P xs = record { fits = omega arith; long = refl; rises = λ k l h b. absurd (omega arith); only = λ k h. absurd (omega arith); all = λ x q. absurd (omega (arith, q.0)); rest = λ k h. refl }
 
 module _ (P : ℕ → Type 0) (n : ℕ) (old new : List ℕ) (b : ℕ) (s : Listed (Upto P b) n old new) where
   pub listed_skip : (P b → ⊥) → Listed (Upto P (b + 1)) n old new

@@ -26,6 +26,7 @@ fn too_short<C: GMap>(map: &C, scratch: usize, out: usize) -> bool
 // The slots found so far: in front of the list in the order in which they came, and in places the place of each.
 // A slot is found if its place is below the count and the list has it there, so the memory is not cleared first.
 // Each of the two has a lifetime of its own: with one for both, a caller would not know what the list holds in the end.
+// That the list has just as many places as a map has slots is asked where a tuple comes in: it is the tuple that has the map.
 #[derive(Drop)]
 struct Found<'l, 'p> {
     list: &'l mut [u16],
@@ -99,13 +100,14 @@ impl<'l, 'p> Found<'l, 'p> {
         ensures orbit { Collected (C.Reads.meaning tuple.now.map.now) (via switches) tuple.now.slot self.new.count self.new.list.now }
         ensures same_list { self.new.list.ghost_name ≡ self.old.list.ghost_name }
     {
+        let map = tuple.map;
         self.count = 0;
         self.add(tuple.slot);
         let mut done = 0;
         // by index, since the list grows while it is walked
         while done < self.count {
             let slot = self.list[done as usize];
-            self.expand(&Tuple { map: tuple.map, slot }, switches);
+            self.expand(&Tuple { map, slot }, switches);
             done += 1;
         }
     }
@@ -140,4 +142,20 @@ impl<'l, 'p> Found<'l, 'p> {
         self.gather(tuple, switches);
         self.rise(out)
     }
+}
+
+// Collects the orbit of a tuple under the switches in front of the list, and answers how many tuples it has.
+fn collect<C: GMap>(
+    tuple: &Tuple<C>,
+    switches: Switches,
+    list: &mut [u16],
+    places: &mut [u16],
+) -> u16
+    requires room { length list.old ≡ (C.Reads.meaning tuple.now.map.now).size }
+    requires places { length list.old ≤ length places.old }
+    ensures { Collected (C.Reads.meaning tuple.now.map.now) (via switches) tuple.now.slot result list.new }
+{
+    let mut found = Found::new(list, places);
+    found.gather(tuple, switches);
+    found.count
 }

@@ -4,12 +4,10 @@ use Rattle.std.proofs.lemmas.Bool.{cases_eq, cases_lt}
 use Rattle.gmap.specs.Map.{Map, Partners, Free}
 use Rattle.gmap.specs.Rings.{walk, Open, Ring}
 use Rattle.ring.specs.Round.{Stays, Turned, Round}
-use Rattle.ring.proofs.Walks.{to_odd, to_even, walk_turn, walk_live, walk_soon, stays_open, open_stays}
+use Rattle.ring.proofs.Pairs.{paired, paired_long, paired_there, paired_before, paired_behind}
+use Rattle.ring.proofs.Walks.{to_odd, to_even, walk_turn, walk_soon, stays_open, open_stays}
 
 module _ {m : Map} (law : Partners m) {k t n x : ℕ} (above : 1 ≤ k) {closed : Bool} {old xs : List ℕ} (r : Round m k t n x closed old xs) where
-  pub round_live : m.live t ≡ true → m.live x ≡ true
-  round_live live = ap m.live (sym r.at) ∙ walk_live m law k above t live n
-
   -- no even step so far is back, up to the last
   on_way : (0 < n → x ≡ t → ⊥) → (p : ℕ) → 0 < p → p ≤ n → p % 2 ≡ 0 → walk m k t p ≡ t → ⊥
   on_way away p s l e h =
@@ -39,7 +37,10 @@ module _ {m : Map} (law : Partners m) {k t n x : ℕ} (above : 1 ≤ k) {closed 
       all true none = λ p l o. let (q, h, s) = open_stays m law k above t n r.even back p l o in none q h s
       all false some = stays_open m law k above t n some
 
-  module _ (away : 0 < n → x ≡ t → ⊥) (y : ℕ) (leads : Bool) (ys : List ℕ) (w : Turned m k x n (y, leads) xs ys) where
+  module _ (away : 0 < n → x ≡ t → ⊥) (y : ℕ) (leads : Bool) (pair : List ℕ) (w : Turned m k x y leads pair) (room : n + 2 ≤ length xs) (pairs : length pair ≡ 2) where
+    abbrev ys : List ℕ
+    ys = paired n xs pair room pairs
+
     two : n + 2 ≡ suc (suc n)
     two = omega arith
 
@@ -49,13 +50,19 @@ module _ {m : Map} (law : Partners m) {k t n x : ℕ} (above : 1 ≤ k) {closed 
     ends : walk m k t (n + 2) ≡ y
     ends = ap (walk m k t) two ∙ (walk_turn m law k above t n r.even ∙ (ap (λ z. m.partner k (m.partner (k - 1) z)) r.at ∙ sym w.next))
 
+    here : get_or ys n 0 ≡ x
+    here = let q : n ≡ n + 0 = omega arith in ap (λ j. get_or ys j 0) q ∙ (paired_there n xs pair room pairs 0 (omega arith) ∙ w.here)
+
+    beside : get_or ys (n + 1) 0 ≡ m.partner (k - 1) x
+    beside = paired_there n xs pair room pairs 1 (omega arith) ∙ w.beside
+
     steps : (p : ℕ) → p < n + 2 → get_or ys p 0 ≡ walk m k t p
     steps p l =
         ⊎_elim
-        (λ (h : p < n). w.before p h ∙ r.steps p h)
+        (λ (h : p < n). paired_before n xs pair room pairs p h ∙ r.steps p h)
         (λ (h : n ≤ p). ⊎_elim
-        (λ (e : p ≡ n). ap (λ j. get_or ys j 0) e ∙ (w.here ∙ (sym r.at ∙ ap (walk m k t) (sym e))))
-        (λ (e : p ≡ n → ⊥). let q : p ≡ n + 1 = omega arith in let s : suc n ≡ p = omega arith in ap (λ j. get_or ys j 0) q ∙ (w.beside ∙ (sym odd ∙ ap (walk m k t) s)))
+        (λ (e : p ≡ n). ap (λ j. get_or ys j 0) e ∙ (here ∙ (sym r.at ∙ ap (walk m k t) (sym e))))
+        (λ (e : p ≡ n → ⊥). let q : p ≡ n + 1 = omega arith in let s : suc n ≡ p = omega arith in ap (λ j. get_or ys j 0) q ∙ (beside ∙ (sym odd ∙ ap (walk m k t) s)))
         (cases_eq p n))
         (cases_lt p n)
 
@@ -94,8 +101,8 @@ module _ {m : Map} (law : Partners m) {k t n x : ℕ} (above : 1 ≤ k) {closed 
           even = omega (arith, r.even);
           at = ends;
           first = λ p s l e. on_way away p s (omega (arith, r.even)) e;
-          long = w.long ∙ r.long;
+          long = paired_long n xs pair room pairs ∙ r.long;
           steps = steps;
-          rest = λ p l. w.behind p l ∙ r.rest p (omega arith);
-          leads = all closed leads r.leads w.leads;
+          rest = λ p l. paired_behind n xs pair room pairs p l ∙ r.rest p (omega arith);
+          leads = all closed leads r.leads w.leads_on;
         }

@@ -1,15 +1,16 @@
 // A walk by two neighbouring switches in turn, up to the first even step that is back at the start.
-ghost use Rattle.std.specs.Prelude.{◌≡◌, ◌+◌, ◌*◌, ◌≤◌, true, length, IfOk};
+ghost use Rattle.std.specs.Prelude.{◌≡◌, ◌*◌, ◌≤◌, length, IfOk};
 ghost use Rattle.gmap.specs.Outcome.{Outcome};
 ghost use Rattle.gmap.specs.Rings.{ring_checks, Ring, Encircles};
 ghost use Rattle.ring.specs.Round.{Turned};
 
 use gmap::map::GMap;
 use gmap::refusal::Refusal;
+use gmap::tuple::Tuple;
 
-// The refusals of a ring.
-fn admit<C: GMap>(map: &C, k: u16, t: u16, out: usize) -> Result<(), Refusal>
-    ensures { Outcome (ring_checks (C.Reads.meaning map.now) out k t) (λ _. Unit {0}) (Unit {0}) result }
+// The refusals of a ring; else its start.
+fn admit<C: GMap>(map: &C, k: u16, t: u16, out: usize) -> Result<Tuple<C>, Refusal>
+    ensures { Outcome (ring_checks (C.Reads.meaning map.now) out k t) (λ x. (x.map.now ≡ map.now) × (x.slot ≡ t)) (Unit {0}) result }
 {
     if out < 2 * map.size() as usize {
         return Err(Refusal::Short);
@@ -17,49 +18,46 @@ fn admit<C: GMap>(map: &C, k: u16, t: u16, out: usize) -> Result<(), Refusal>
     if k == 0 || k > map.top() {
         return Err(Refusal::NoSwitch);
     }
-    if t >= map.size() {
-        return Err(Refusal::NoSlot);
-    }
-    if !map.is_live(t) {
-        return Err(Refusal::Vacant);
-    }
-    Ok(())
+    Tuple::at(map, t)
 }
 
-// One turn: writes x and its partner y in k - 1, and answers the partner of y in k, and whether both steps lead on.
-fn turn<C: GMap>(map: &C, k: u16, x: u16, at: usize, out: &mut [u16]) -> (u16, bool)
+// One turn: writes x and its partner y in k - 1 as a pair, and answers the partner of y in k, and whether both steps lead on.
+fn turn<'m, C: GMap>(x: &Tuple<'m, C>, k: u16, pair: &mut [u16]) -> (Tuple<'m, C>, bool)
     requires above { 1 ≤ k }
-    requires switch { k ≤ (C.Reads.meaning map.now).top }
-    requires live { (C.Reads.meaning map.now).live x ≡ true }
-    requires room { at + 2 ≤ length out.old }
-    ensures { Turned (C.Reads.meaning map.now) k x at result out.old out.new }
+    requires switch { k ≤ (C.Reads.meaning x.now.map.now).top }
+    requires pair { length pair.old ≡ 2 }
+    ensures map { result.0.map ≡ x.now.map }
+    ensures turned { Turned (C.Reads.meaning x.now.map.now) k x.now.slot result.0.slot result.1 pair.new }
 {
-    let y = map.partner(k - 1, x).unwrap();
-    let next = map.partner(k, y).unwrap();
-    out[at] = x;
-    out[at + 1] = y;
-    (next, y != x && next != y)
+    let y = x.partner(k - 1);
+    let next = y.partner(k);
+    pair[0] = x.slot;
+    pair[1] = y.slot;
+    let leads_on = y.slot != x.slot && next.slot != y.slot;
+    (next, leads_on)
 }
 
-// Goes round, turn by turn.
+// Goes round from the start, turn by turn, and answers how many steps it took and whether all led on. Both have a meaning after every round.
 // A tuple met is free in one of the two switches if and only if some step stays where it is, so no partner is looked up twice.
-fn go_round<C: GMap>(map: &C, k: u16, t: u16, out: &mut [u16]) -> (u16, bool)
+fn go_round<C: GMap>(start: Tuple<C>, k: u16, out: &mut [u16]) -> (u16, bool)
     requires above { 1 ≤ k }
-    requires switch { k ≤ (C.Reads.meaning map.now).top }
-    requires live { (C.Reads.meaning map.now).live t ≡ true }
-    requires room { 2 * (C.Reads.meaning map.now).size ≤ length out.old }
-    ensures steps { Ring (C.Reads.meaning map.now) k t result out.old out.new }
-    ensures orbit { Encircles (C.Reads.meaning map.now) k t result.0 out.new }
+    requires switch { k ≤ (C.Reads.meaning start.map.now).top }
+    requires room { 2 * (C.Reads.meaning start.map.now).size ≤ length out.old }
+    ensures steps { Ring (C.Reads.meaning start.entry.map.now) k start.entry.slot result out.old out.new }
+    ensures orbit { Encircles (C.Reads.meaning start.entry.map.now) k start.entry.slot result.0 out.new }
 {
+    let t = start.slot;
+    let mut x = start;
+    // The steps are counted since they are the answer. Pairs by chunks_exact_mut would leave a proof no element of what they wrote.
     let mut steps: u16 = 0;
-    let mut x = t;
     let mut closed = true;
     loop {
-        let (next, leads_on) = turn(map, k, x, steps as usize, out);
-        x = next;
+        let at = steps as usize;
+        let (end, leads_on) = turn(&x, k, &mut out[at..at + 2]);
+        x = end;
         steps += 2;
-        closed = closed && leads_on;
-        if x == t {
+        closed &= leads_on;
+        if x.slot == t {
             return (steps, closed);
         }
     }
@@ -71,6 +69,6 @@ pub fn ring<C: GMap>(map: &C, k: u16, t: u16, out: &mut [u16]) -> Result<(u16, b
     ensures outcome { Outcome (ring_checks (C.Reads.meaning map.now) (length out.old) k t) (λ a. Ring (C.Reads.meaning map.now) k t a out.old out.new) (out.new ≡ out.old) result }
     ensures orbit { IfOk result (λ a. Encircles (C.Reads.meaning map.now) k t a.0 out.new) }
 {
-    admit(map, k, t, out.len())?;
-    Ok(go_round(map, k, t, out))
+    let start = admit(map, k, t, out.len())?;
+    Ok(go_round(start, k, out))
 }

@@ -1,7 +1,7 @@
 // The cell of a tuple, listed upwards, with the place of each of its tuples in that list.
-ghost use Rattle.std.specs.Prelude.{◌≡◌, ℕ, ◌<◌, length, slice_index};
+ghost use Rattle.std.specs.Prelude.{◌≡◌, ℕ, ◌<◌, ◌≤◌, length, slice_index};
 ghost use Rattle.gmap.specs.Asking.{cell_checks};
-ghost use Rattle.gmap.specs.Listing.{Ranked};
+ghost use Rattle.gmap.specs.Listing.{Listed, Ranked};
 ghost use Rattle.gmap.specs.Orbits.{Cell};
 ghost use Rattle.gmap.specs.Outcome.{Outcome};
 ghost use Rattle.questions.specs.Ranks.{Rankable};
@@ -12,7 +12,7 @@ use gmap::map::GMap;
 use gmap::refusal::Refusal;
 use gmap::tuple::Tuple;
 
-// The refusals of a cell; else the tuple.
+// The refusals of a cell; else its tuple.
 fn admit<C: GMap>(
     map: &C,
     t: u16,
@@ -29,7 +29,24 @@ fn admit<C: GMap>(
     Tuple::at(map, t)
 }
 
-// Writes to ranks the place of each of some numbers that rise.
+// Writes a cell upwards. The list and the places of the search are free afterwards.
+fn write_cell<C: GMap>(
+    tuple: &Tuple<C>,
+    i: u16,
+    list: &mut [u16],
+    places: &mut [u16],
+    members: &mut [u16],
+) -> u16
+    requires list { (C.Reads.meaning tuple.now.map.now).size ≤ length list.old }
+    requires places { (C.Reads.meaning tuple.now.map.now).size ≤ length places.old }
+    requires members { (C.Reads.meaning tuple.now.map.now).size ≤ length members.old }
+    ensures { Listed (Cell (C.Reads.meaning tuple.now.map.now) i tuple.now.slot) result members.old members.new }
+{
+    let list = &mut list[..tuple.map.size() as usize];
+    Found::new(list, places).list_upwards(tuple, Switches::AllBut(i), members)
+}
+
+// Writes to ranks the place of each member, which rise.
 fn rank(members: &[u16], ranks: &mut [u16])
     requires { Rankable members.now ranks.old }
     ensures { (k : ℕ) → k < length members.now → slice_index ranks.new (slice_index members.now k) ≡ k }
@@ -52,8 +69,7 @@ pub fn cell<C: GMap>(
     ensures { Outcome (cell_checks (C.Reads.meaning map.now) (length members.old) (length ranks.old) (length spare.old) t) (λ n. Ranked (Cell (C.Reads.meaning map.now) i t) n members.new ranks.new) (Unit {0}) result }
 {
     let tuple = admit(map, t, members.len(), ranks.len(), spare.len())?;
-    let (list, _) = spare.split_at_mut(map.size() as usize);
-    let count = Found::new(list, ranks).list_upwards(&tuple, Switches::AllBut(i), members);
+    let count = write_cell(&tuple, i, spare, ranks, members);
     rank(&members[..count as usize], ranks);
     Ok(count)
 }

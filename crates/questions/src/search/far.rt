@@ -3,7 +3,7 @@ ghost use Rattle.std.specs.Prelude.{◌≡◌, ◌≤◌, true, length};
 ghost use Rattle.gmap.specs.Map.{Far};
 ghost use Rattle.questions.specs.Search.{Collected};
 
-use super::Found;
+use super::collect;
 use crate::switches::Switches;
 use gmap::map::GMap;
 use gmap::tuple::Tuple;
@@ -17,7 +17,5 @@ pub fn far_orbit<C: GMap>(map: &C, i: u16, t: u16, list: &mut [u16], places: &mu
     requires places { length list.old ≤ length places.old }
     ensures { Collected (C.Reads.meaning map.now) (Far i) t result list.new }
 {
-    let mut found = Found::new(list, places);
-    found.gather(&Tuple { map, slot: t }, Switches::FarFrom(i));
-    found.count
+    collect(&Tuple { map, slot: t }, Switches::FarFrom(i), list, places)
 }

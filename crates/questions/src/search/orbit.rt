@@ -43,12 +43,7 @@ fn admit<C: GMap>(
 }
 
 // Writes an orbit upwards.
-fn write_orbit<C: GMap>(
-    tuple: &Tuple<C>,
-    mask: u8,
-    scratch: &mut [u16],
-    out: &mut [u16],
-) -> u16
+fn write_orbit<C: GMap>(tuple: &Tuple<C>, mask: u8, scratch: &mut [u16], out: &mut [u16]) -> u16
     requires scratch { 4 * (C.Reads.meaning tuple.now.map.now).size ≤ length scratch.old }
     requires out { (C.Reads.meaning tuple.now.map.now).size ≤ length out.old }
     ensures { Listed (Orbit (C.Reads.meaning tuple.now.map.now) (Bit mask) tuple.now.slot) result out.old out.new }

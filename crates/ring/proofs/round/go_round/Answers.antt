@@ -1,51 +1,43 @@
-use Rattle.std.proofs.Common.{◌≡◌, ◌+◌, ◌*◌, ◌≤◌, ◌&&◌, sym, ap, ◌∙◌, subst, arith}
+use Rattle.std.proofs.Common.{◌≡◌, ◌+◌, ◌*◌, ◌≤◌, ◌&&◌, ◌-◌, length, ◌∙◌, arith, rules}
 use Rattle.ring.specs.Round.{Round}
-use Rattle.ring.proofs.Rounds.{round_live, round_room, round_done, round_more}
+use borrow.Rule.Slice.PartMut.{put_mid}
+use Rattle.ring.proofs.Rounds.{round_room, round_done, round_more}
 use Rattle.ring.proofs.Encircling.{encircles}
 use Rattle.ring.proofs.round.go_round.Given as given
 use Rattle.ring.proofs.round.go_round.Goals as goal
-use Rattle.ring.proofs.round.go_round.Goals.{At-loop-closed, Joined-closed, then-closed, else-closed}
+use Rattle.ring.proofs.round.go_round.Goals.{At-loop-x, After-turn-leads_on}
 
 -- a turn more fits
-room : (g : given.Over) (c : At-loop-closed g) → c.loop-closed.steps + 2 ≤ 2 * (g.C.Reads.meaning c.args.map.now).size
-room g c = round_room (g.met.C.GMap.partners c.args.map.now) c.requires.above c.loop-closed.invariant.0 c.requires.live c.loop-closed.invariant.1
+room : (g : given.Over) (c : At-loop-x g) → c.loop-x.steps + 2 ≤ 2 * (g.C.Reads.meaning c.args.start.map.now).size
+room g c = round_room (g.met.C.GMap.partners c.args.start.map.now) c.requires.above c.loop-x.invariant.1 c.args.start.live c.loop-x.invariant.2
 
--- the round after the turn
-more : (g : given.Over) (c : Joined-closed g) → Round (g.C.Reads.meaning c.args.map.now) c.args.k c.args.t (c.loop-closed.steps + 2) c.turn-next.result.0 c.if-closed.closed c.args.out.now c.turn-next.new.out
-more g c =
-    let m = g.C.Reads.meaning c.args.map.now in
-    let law = g.met.C.GMap.partners c.args.map.now in
-    let leads = c.turn-next.result.1 in
-    let e : c.loop-closed.closed && leads ≡ c.if-closed.closed = elim c.if-closed.branch [
-      | then-closed w ↦ ap (λ b. b && leads) w.if-closed.true ∙ sym w.closed-is
-      | else-closed w ↦ ap (λ b. b && leads) w.if-closed.false ∙ sym (w.closed-is ∙ w.if-closed.false)
-    ] in
-    subst (λ b. Round m c.args.k c.args.t (c.loop-closed.steps + 2) c.turn-next.result.0 b c.args.out.now c.turn-next.new.out) e (round_more law c.requires.above c.loop-closed.invariant.0 c.loop-closed.invariant.1 _ _ _ c.turn-next.ensures)
+fits : (g : given.Over) (c : At-loop-x g) → c.loop-x.steps + 2 ≤ length c.loop-x.out
+fits g c = omega (arith, room g c, c.requires.room, c.loop-x.auto.out)
 
-pub overflow_cast-steps : goal.overflow_cast-steps
-overflow_cast-steps g c = omega (arith, room g (goal.at.overflow_cast-steps g c).At-loop-closed, (g.met.C.GMap.partners c.args.map.now).few)
-
-pub turn-next-requires : goal.turn-next-requires
-turn-next-requires g c =
-    record {
-      above = c.requires.above;
-      switch = c.requires.switch;
-      live = round_live (g.met.C.GMap.partners c.args.map.now) c.requires.above c.loop-closed.invariant.0 c.requires.live;
-      room = omega (arith, room g (goal.at.turn-next-requires g c).At-loop-closed, c.requires.room, c.loop-closed.auto.out);
-    }
+pub slice_bounds-turn-end : goal.slice_bounds-turn-end
+slice_bounds-turn-end g c = fits g (goal.at.slice_bounds-turn-end g c).At-loop-x
 
 pub overflow_add-steps : goal.overflow_add-steps
-overflow_add-steps g c = omega (arith, room g (goal.at.overflow_add-steps g c).At-loop-closed, (g.met.C.GMap.partners c.args.map.now).few)
+overflow_add-steps g c = omega (arith, room g (goal.at.overflow_add-steps g c).At-loop-x, (g.met.C.GMap.partners c.args.start.map.now).few)
+
+pub loop-x-smaller : goal.loop-x-smaller
+loop-x-smaller g c = omega (arith, room g (goal.at.loop-x-smaller g c).At-loop-x)
+
+-- the round after the turn
+more : (g : given.Over) (c : After-turn-leads_on g) → c.loop-x.steps + 2 ≤ length c.loop-x.out → Round (g.C.Reads.meaning c.args.start.map.now) c.args.k c.args.start.slot (c.loop-x.steps + 2) c.turn-leads_on.result.0.slot (c.loop-x.closed && c.turn-leads_on.result.1) c.args.out.now (put_mid c.loop-x.steps (c.loop-x.steps + 2 - c.loop-x.steps) c.loop-x.out c.turn-leads_on.new.pair)
+more g c fits =
+    let (same, round, away) = c.loop-x.invariant in
+    let pair : length c.turn-leads_on.new.pair ≡ 2 = search rules in
+    round_more (g.met.C.GMap.partners c.args.start.map.now) c.requires.above round away _ _ _ (rw same at c.turn-leads_on.ensures.turned) fits pair
+
+pub loop-x-preserved : goal.loop-x-preserved
+loop-x-preserved g c =
+    let at = goal.at.loop-x-preserved g c in
+    (c.turn-leads_on.ensures.map ∙ c.loop-x.invariant.0, more g at.After-turn-leads_on (fits g at.At-loop-x), λ s e. c.if-x-t.false e)
 
 pub returns-then-x-t : goal.returns-then-x-t
 returns-then-x-t g c =
-    let law = g.met.C.GMap.partners c.args.map.now in
-    let fits = room g (goal.at.returns-then-x-t g c).At-loop-closed in
-    let steps = round_done law c.requires.above (more g (goal.at.returns-then-x-t g c).Joined-closed) (omega arith) c.if-x-t.true (omega (arith, fits, c.requires.room)) in
+    let at = goal.at.returns-then-x-t g c in
+    let law = g.met.C.GMap.partners c.args.start.map.now in
+    let steps = round_done law c.requires.above (more g at.After-turn-leads_on (fits g at.At-loop-x)) (omega arith) c.if-x-t.true (omega (arith, room g at.At-loop-x, c.requires.room)) in
     record { steps = steps; orbit = encircles _ law _ c.requires.above _ _ _ _ steps }
-
-pub loop-closed-smaller : goal.loop-closed-smaller
-loop-closed-smaller g c = omega (arith, room g (goal.at.loop-closed-smaller g c).At-loop-closed)
-
-pub loop-closed-preserved : goal.loop-closed-preserved
-loop-closed-preserved g c = (more g (goal.at.loop-closed-preserved g c).Joined-closed, λ s e. c.if-x-t.false e)

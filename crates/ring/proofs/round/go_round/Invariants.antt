@@ -3,8 +3,11 @@ use Rattle.ring.specs.Round.{Round}
 use Rattle.ring.proofs.round.go_round.Given as goal
 
 -- the walk is under way: behind the first turn it is not back
-abbrev pub invariant-loop-closed : goal.invariant-loop-closed
-invariant-loop-closed g l = Round (g.C.Reads.meaning l.map) l.k l.t l.steps l.x l.closed l.initial.out l.out × (0 < l.steps → l.x ≡ l.t → ⊥)
+abbrev pub invariant-loop-x : goal.invariant-loop-x
+invariant-loop-x g l =
+    (l.x.map ≡ l.fn.start.map)
+    × Round (g.C.Reads.meaning l.fn.start.map.now) l.k l.t l.steps l.x.slot l.closed l.initial.out l.out
+    × (0 < l.steps → l.x.slot ≡ l.t → ⊥)
 
-abbrev pub decreases-loop-closed : goal.decreases-loop-closed
-decreases-loop-closed g l = 2 * (g.C.Reads.meaning l.map).size - l.steps
+abbrev pub decreases-loop-x : goal.decreases-loop-x
+decreases-loop-x g l = 2 * (g.C.Reads.meaning l.fn.start.map.now).size - l.steps

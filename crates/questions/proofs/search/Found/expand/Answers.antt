@@ -1,4 +1,4 @@
-use Rattle.std.proofs.Common.{◌≡◌, ◌+◌, sym, ◌∙◌, subst, arith}
+use Rattle.std.proofs.Common.{◌≡◌, ◌+◌, sym, ◌∙◌, subst}
 use Rattle.questions.specs.declared.search.Found.{Found}
 use Rattle.questions.specs.Search.{Spread}
 use Rattle.questions.specs.Via.{via}

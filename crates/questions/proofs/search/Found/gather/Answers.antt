@@ -1,4 +1,4 @@
-use Rattle.std.proofs.Common.{true, refl, ◌∙◌, arith, rules}
+use Rattle.std.proofs.Common.{true, refl, ◌∙◌}
 use Rattle.gmap.proofs.Orbits.{orbit_live}
 use Rattle.questions.proofs.Finding.{progress_none, progress_more, collected}
 use Rattle.questions.proofs.search.Found.gather.Goals as goal

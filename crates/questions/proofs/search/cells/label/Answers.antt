@@ -1,5 +1,5 @@
 use Rattle.std.proofs.Common.{◌+◌, ◌<◌, get_or, ap, ◌∙◌, arith, rules}
-use Rattle.std.proofs.lemmas.List.{get_or-take, length-take-le}
+use Rattle.std.proofs.lemmas.List.{get_or-take}
 use Rattle.gmap.specs.Listing.{Among}
 use Rattle.gmap.proofs.Listing.{among_suc, among_last, among_split}
 use Rattle.questions.proofs.Marks.{marked_more}

@@ -1,11 +1,11 @@
 use Rattle.std.proofs.Common.{ℕ, List, sym, ◌∙◌, subst, rules}
-use Rattle.gmap.specs.Map.{Far}
 use Rattle.questions.specs.Search.{Collected}
-use Rattle.questions.proofs.search.far.far_orbit.Goals as goal
+use Rattle.questions.specs.Via.{via}
+use Rattle.questions.proofs.search.collect.Goals as goal
 
 -- the list that was lent is the one that the search has filled
 pub returns : goal.returns
 returns g c =
-    let F : List ℕ → Type 0 = λ xs. Collected (g.C.Reads.meaning c.args.map.now) (Far c.args.i) c.args.t c.gather.new.self.count xs in
+    let F : List ℕ → Type 0 = λ xs. Collected (g.C.Reads.meaning c.args.tuple.now.map.now) (via c.args.switches) c.args.tuple.now.slot c.gather.new.self.count xs in
     let e = sym (c.gather.ensures.same_list ∙ c.new-found.ensures.same_list) in
     subst F (search (rules, e)) c.gather.ensures.orbit
