@@ -4,11 +4,11 @@ use Rattle.gmap.specs.Map.{Map, Partners}
 use Rattle.gmap.specs.Acts.{tie_checks}
 use Rattle.gmap.specs.Orbits.{FarOrbit, here, step}
 use Rattle.gmap.specs.Building.{Pair, given, turned, moved, Fits, join_checks}
-use Rattle.gmap.specs.Listing.{Among}
 use Rattle.gmap.specs.Outcome.{Passes}
 use Rattle.gmap.proofs.Outcomes.{passes_both}
 use Rattle.building.specs.Mates.{Joinable}
 use Rattle.building.specs.Tying.{Ready, PairsOf, Tieable}
+use Rattle.building.proofs.Sides.{side_only}
 use Rattle.building.proofs.Couples.{pair_sym, pair_apart, pair_live, pair_side, side_pair}
 
 module _ (m : Map) (i t u : ℕ) where
@@ -47,13 +47,10 @@ module _ (m : Map) (i t u : ℕ) where
           mate_free = λ k h. r.free (get_or ms (get_or side k 0) 0) (pair_side m i t u (pair_sym m i t u (pair_at k h)));
         }
 
-    only : (x : ℕ) → Among side (length side) x → FarOrbit m i t x
-    only x (k, h, e) = subst (FarOrbit m i t) e (r.collected.only k h)
-
     pub pairs_only : (x y : ℕ) → PairsOf side (length side) ms x y → Pair m i t u x y
     pairs_only x y = ⊎_elim
-        (λ (a, e). subst (Pair m i t u x) e (pair_of x (only x a)))
-        (λ (a, e). pair_sym m i t u (subst (Pair m i t u y) e (pair_of y (only y a))))
+        (λ (a, e). subst (Pair m i t u x) e (pair_of x (side_only m i t side r.collected x a)))
+        (λ (a, e). pair_sym m i t u (subst (Pair m i t u y) e (pair_of y (side_only m i t side r.collected y a))))
 
     pub pairs_all : (x y : ℕ) → Pair m i t u x y → PairsOf side (length side) ms x y
     pairs_all x y p = ⊎_elim (λ a. inl (r.collected.all x a, r.matched.all x y p)) (λ a. inr (r.collected.all y a, r.matched.all y x (pair_sym m i t u p))) (pair_left p)
