@@ -1,9 +1,10 @@
-use Rattle.std.proofs.Common.{◌*◌, ◌<◌, length, arith}
+use Rattle.std.proofs.Common.{length, rules}
 use Rattle.gmap.specs.Building.{join_checks}
 use Rattle.gmap.specs.Map.{Same}
+use Rattle.gmap.specs.Outcome.{Passes}
 use Rattle.gmap.proofs.Outcomes.{accepted}
 use Rattle.building.proofs.Tying.{tie_like}
-use Rattle.building.proofs.Ready.{join_passes, ready_fits, ready_tieable, pairs_only, pairs_all}
+use Rattle.building.proofs.Ready.{ready_fits, ready_tieable, pairs_only, pairs_all}
 use Rattle.building.proofs.tie.join.Goals as goal
 
 pub tie_pairs-requires : goal.tie_pairs-requires
@@ -20,5 +21,6 @@ returns-clause-outcome g c =
     let (passes, (map, i, t, u)) = c.in_ok-seam.ensures in
     let ready = rw (map, i, t, u) at c.in_ok-side.ensures in
     let able = rw (map, i, t, u) at c.in_ok-seam.seam.able in
-    let room : length c.args.scratch.now < 4 * m.size → ⊥ = λ h. omega (arith, c.if-scratch-size.false, c.size-size.ensures) in
-    accepted (join_checks m (length c.args.scratch.now) c.args.i c.args.t c.args.u) _ _ (Same (g.B.Reads.meaning c.tie_pairs.new.board) m) _ (join_passes m _ _ _ _ room passes (ready_fits m _ _ _ law able _ _ ready)) c.tie_pairs.ensures (λ n s. tie_like m _ _ _ n _ (pairs_only m _ _ _ law able _ _ ready) (pairs_all m _ _ _ law able _ _ ready) s)
+    let fits = ready_fits m _ _ _ law able _ _ ready in
+    let passed : Passes (join_checks m (length c.args.scratch.now) c.args.i c.args.t c.args.u) = search rules in
+    accepted (join_checks m (length c.args.scratch.now) c.args.i c.args.t c.args.u) _ _ (Same (g.B.Reads.meaning c.tie_pairs.new.board) m) _ passed c.tie_pairs.ensures (λ n s. tie_like m _ _ _ n _ (pairs_only m _ _ _ law able _ _ ready) (pairs_all m _ _ _ law able _ _ ready) s)
