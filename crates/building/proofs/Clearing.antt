@@ -1,17 +1,14 @@
 -- Clearing the two sides of a join.
-use Rattle.std.proofs.Common.{◌≡◌, ℕ, ◌+◌, ◌<◌, List, length, get_or, set, sym, ◌∙◌, subst, ⊎_elim, arith}
+use Rattle.std.proofs.Common.{◌≡◌, ℕ, ◌+◌, ◌<◌, List, length, get_or, set, sym, ◌∙◌, subst, ⊎_elim}
 use Rattle.gmap.specs.Map.{Map, Far, Free}
 use Rattle.gmap.specs.Building.{Fits}
 use Rattle.gmap.specs.Listing.{Among}
 use Rattle.gmap.proofs.Listing.{among_cases, among_suc, among_last, among_split}
 use Rattle.questions.specs.Search.{Collected}
-use Rattle.questions.proofs.Marks.{marked_none, marked_more}
+use Rattle.questions.proofs.Marks.{marked_more}
 use Rattle.building.specs.Mates.{OnSides, Blank}
 use Rattle.building.specs.Tying.{Cleared}
 use Rattle.building.proofs.Couples.{side_pair}
-
-pub cleared_none : (m : Map) (i : ℕ) (xs ms : List ℕ) → Cleared m i xs 0 ms ms
-cleared_none m i xs ms = record { free = λ x (k, h, e). absurd (omega arith); marked = marked_none (Among xs 0) 65535 ms (λ x (k, h, e). absurd (omega arith)) }
 
 pub cleared_more : (m : Map) (i : ℕ) (xs : List ℕ) (k : ℕ) (ms ms' : List ℕ) → get_or xs k 0 < length ms' → Free m i (get_or xs k 0) → Cleared m i xs k ms ms' → Cleared m i xs (k + 1) ms (set ms' (get_or xs k 0) 65535)
 cleared_more m i xs k ms ms' lt free s =

@@ -1,19 +1,14 @@
 -- Cutting the links at a list of tuples, one after the other.
-use Rattle.std.proofs.Common.{◌≡◌, ℕ, ◌+◌, ◌<◌, ◌⊎◌, List, get_or, sym, refl, ap, ◌∙◌, subst, inl, inr, ⊎_elim, arith}
+use Rattle.std.proofs.Common.{◌≡◌, ℕ, ◌+◌, ◌<◌, ◌⊎◌, List, get_or, sym, ap, ◌∙◌, subst, inl, inr, ⊎_elim, arith}
 use Rattle.std.proofs.lemmas.Bool.{cases_eq, cases_lt}
 use Rattle.gmap.specs.Map.{Map, Partners, Free, Same}
 use Rattle.gmap.specs.Acts.{untied}
 use Rattle.gmap.specs.Building.{Meets, AllCut}
 use Rattle.gmap.specs.Listing.{Among}
-use Rattle.gmap.proofs.Counting.{counts_none, counts_like, counts_more}
+use Rattle.gmap.proofs.Counting.{counts_like, counts_more}
 use Rattle.gmap.proofs.Listing.{among_cases, among_suc, among_last, among_split}
 use Rattle.gmap.proofs.Acts.{untied_frame, untied_left, untied_right, untied_rest}
-use Rattle.building.proofs.Frames.{frame_refl, frame_trans, frame_same}
-
-pub cut_none : (m : Map) (i : ℕ) (P : ℕ → Type 0) → ((x : ℕ) → P x → ⊥) → AllCut m i P 0 m
-cut_none m i P none =
-    let never : (x : ℕ) → Meets m i P x → ⊥ = λ x. ⊎_elim (none x) (none (m.partner i x)) in
-    record { frame = frame_refl i m; cuts = λ x p. absurd (never x p); rest = λ x q. refl; count = counts_none _ (λ x p. never x p.0) }
+use Rattle.building.proofs.Frames.{frame_trans, frame_same}
 
 pub cut_like : (m : Map) (i : ℕ) (P Q : ℕ → Type 0) (n : ℕ) (m' : Map) → ((x : ℕ) → P x → Q x) → ((x : ℕ) → Q x → P x) → AllCut m i P n m' → AllCut m i Q n m'
 cut_like m i P Q n m' to fro s =

@@ -7,4 +7,3 @@ pub mod Matching
 pub mod Tying
 pub mod Clearing
 pub mod Ready
-pub mod Refused

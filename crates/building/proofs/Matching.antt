@@ -80,9 +80,6 @@ module _ (m : Map) (law : Partners m) (i t u : ℕ) (able : Joinable m i t u) wh
     coupled ms' (inr (a, b, q)) = rw q (new a b)
 
   module _ (ms : List ℕ) (x : ℕ) (on : OnSides m i t u x) where
-    pub followed_none : Mates m i t u ms → Followed m i t u x 0 ms ms
-    followed_none w = record { mates = w; kept = λ z o k. refl; onward = λ j h. absurd (omega arith) }
-
     module _ (j : ℕ) (ms' : List ℕ) (s : Followed m i t u x j ms ms') where
       pub followed_skip : (Far i j → ⊥) → Followed m i t u x (j + 1) ms ms'
       followed_skip off = record { mates = s.mates; kept = s.kept; onward = below_more (λ k. Far i k → get_or ms' (m.partner k x) 0 ≡ m.partner k (get_or ms x 0)) j s.onward (λ f. absurd (off f)) }
@@ -119,7 +116,7 @@ module _ (m : Map) (law : Partners m) (i t u : ℕ) (able : Joinable m i t u) wh
     abbrev pub x : ℕ
     x = get_or xs k 0
 
-    pub pairing_side : OnSides m i t u x
+    pairing_side : OnSides m i t u x
     pairing_side = inl (o.only k below)
 
     -- a tuple is met only after the one that it was found from

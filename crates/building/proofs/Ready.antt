@@ -1,20 +1,14 @@
 -- Sides that are ready to be tied: the pairs fit, and they are the tuples of one side with their mates.
-use Rattle.std.proofs.Common.{ℕ, ◌*◌, ◌<◌, ◌⊎◌, List, [], ◌∷◌, length, get_or, sym, ◌∙◌, subst, inl, inr, ⊎_elim}
+use Rattle.std.proofs.Common.{ℕ, ◌<◌, ◌⊎◌, List, length, get_or, sym, ◌∙◌, subst, inl, inr, ⊎_elim}
 use Rattle.gmap.specs.Map.{Map, Partners}
-use Rattle.gmap.specs.Acts.{tie_checks}
 use Rattle.gmap.specs.Orbits.{FarOrbit, here, step}
-use Rattle.gmap.specs.Building.{Pair, given, turned, moved, Fits, join_checks}
-use Rattle.gmap.specs.Listing.{Among}
-use Rattle.gmap.specs.Outcome.{Passes}
-use Rattle.gmap.proofs.Outcomes.{passes_both}
+use Rattle.gmap.specs.Building.{Pair, given, turned, moved, Fits}
 use Rattle.building.specs.Mates.{Joinable}
 use Rattle.building.specs.Tying.{Ready, PairsOf, Tieable}
+use Rattle.building.proofs.Sides.{side_only}
 use Rattle.building.proofs.Couples.{pair_sym, pair_apart, pair_live, pair_side, side_pair}
 
 module _ (m : Map) (i t u : ℕ) where
-  pub join_passes : (scratch : ℕ) → (scratch < 4 * m.size → ⊥) → Passes (tie_checks m i t u) → Fits m i t u → Passes (join_checks m scratch i t u)
-  join_passes scratch room p fits = (room, passes_both (tie_checks m i t u) ((Fits m i t u → ⊥, 7) ∷ []) p ((λ q. q fits), tt))
-
   -- a pair has an end on the side of t
   pair_left : {x y : ℕ} → Pair m i t u x y → FarOrbit m i t x ⊎ FarOrbit m i t y
   pair_left given = inl here
@@ -47,13 +41,10 @@ module _ (m : Map) (i t u : ℕ) where
           mate_free = λ k h. r.free (get_or ms (get_or side k 0) 0) (pair_side m i t u (pair_sym m i t u (pair_at k h)));
         }
 
-    only : (x : ℕ) → Among side (length side) x → FarOrbit m i t x
-    only x (k, h, e) = subst (FarOrbit m i t) e (r.collected.only k h)
-
     pub pairs_only : (x y : ℕ) → PairsOf side (length side) ms x y → Pair m i t u x y
     pairs_only x y = ⊎_elim
-        (λ (a, e). subst (Pair m i t u x) e (pair_of x (only x a)))
-        (λ (a, e). pair_sym m i t u (subst (Pair m i t u y) e (pair_of y (only y a))))
+        (λ (a, e). subst (Pair m i t u x) e (pair_of x (side_only m i t side r.collected x a)))
+        (λ (a, e). pair_sym m i t u (subst (Pair m i t u y) e (pair_of y (side_only m i t side r.collected y a))))
 
     pub pairs_all : (x y : ℕ) → Pair m i t u x y → PairsOf side (length side) ms x y
     pairs_all x y p = ⊎_elim (λ a. inl (r.collected.all x a, r.matched.all x y p)) (λ a. inr (r.collected.all y a, r.matched.all y x (pair_sym m i t u p))) (pair_left p)

@@ -38,5 +38,5 @@ module _ (m : Map) (law : Partners m) (i t n : ℕ) (xs : List ℕ) (o : Collect
   pub front_side : i ≤ m.top → m.live t ≡ true → length xs ≤ m.size → Side m i (take n xs)
   front_side switch live room = record { switch = switch; few = omega (arith, front_few m (Far i) t n xs o, room); live = λ k h. orbit_live m law _ true live ((collected_front m (Far i) t n xs o).only k h) }
 
-  pub front_only : (x : ℕ) → Among (take n xs) (length (take n xs)) x → FarOrbit m i t x
-  front_only x (k, h, e) = subst (FarOrbit m i t) e ((collected_front m (Far i) t n xs o).only k h)
+pub side_only : (m : Map) (i t : ℕ) (xs : List ℕ) → Collected m (Far i) t (length xs) xs → (x : ℕ) → Among xs (length xs) x → FarOrbit m i t x
+side_only m i t xs o x (k, h, e) = subst (FarOrbit m i t) e (o.only k h)

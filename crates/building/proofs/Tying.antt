@@ -1,18 +1,17 @@
 -- Tying the tuples of a side to their mates, one after the other.
 use Rattle.std.proofs.Common.{◌≡◌, ℕ, ◌+◌, ◌<◌, ◌⊎◌, List, get_or, sym, refl, ap, ◌∙◌, subst, inl, inr, ⊎_elim, arith}
 use Rattle.std.proofs.lemmas.Bool.{cases_lt}
-use Rattle.gmap.specs.Map.{Map, Free, Same}
-use Rattle.gmap.specs.Acts.{tied}
+use Rattle.gmap.specs.Map.{Map, Partners, Free, Same}
+use Rattle.gmap.specs.Acts.{tie_checks, tied}
+use Rattle.gmap.specs.Outcome.{First}
+use Rattle.gmap.specs.declared.refusal.Refusal.{Refusal}
 use Rattle.gmap.specs.Building.{AllTied}
 use Rattle.gmap.specs.Listing.{Among}
-use Rattle.gmap.proofs.Counting.{counts_none, counts_like, counts_more}
+use Rattle.gmap.proofs.Counting.{counts_like, counts_more}
 use Rattle.gmap.proofs.Listing.{among_cases, among_suc, among_last, among_split}
 use Rattle.building.specs.Tying.{PairsOf, Tieable}
-use Rattle.gmap.proofs.Acts.{tied_frame, tied_left, tied_right, tied_rest}
-use Rattle.building.proofs.Frames.{frame_refl, frame_trans, frame_same}
-
-pub tie_none : (m : Map) (i : ℕ) (R : ℕ → ℕ → Type 0) → ((x y : ℕ) → R x y → ⊥) → AllTied m i R 0 m
-tie_none m i R none = record { frame = frame_refl i m; ties = λ x y r. absurd (none x y r); rest = λ x q. refl; count = counts_none _ (λ x (y, r, l). none x y r) }
+use Rattle.gmap.proofs.Acts.{tie_accepted, tied_frame, tied_left, tied_right, tied_rest}
+use Rattle.building.proofs.Frames.{frame_trans, frame_same}
 
 pub tie_like : (m : Map) (i : ℕ) (R Q : ℕ → ℕ → Type 0) (n : ℕ) (m' : Map) → ((x y : ℕ) → R x y → Q x y) → ((x y : ℕ) → Q x y → R x y) → AllTied m i R n m' → AllTied m i Q n m'
 tie_like m i R Q n m' to fro s =
@@ -73,8 +72,12 @@ module _ (m : Map) (i : ℕ) (xs ms : List ℕ) (c : ℕ) (able : Tieable m i xs
   free_x : (Before x y → ⊥) → Free now i x
   free_x new = s.rest x (λ b r. new (subst (Before x) (from_x b r) r)) ∙ able.free k below
 
-  pub free_y : (Before x y → ⊥) → Free now i y
+  free_y : (Before x y → ⊥) → Free now i y
   free_y new = s.rest y (λ b r. new (from_y b r)) ∙ able.mate_free k below
+
+  -- so the tie is accepted
+  pub tie_accepts : Partners now → Free now i x → (e : Refusal) → First (tie_checks now i x y) e → ⊥
+  tie_accepts law free e f = tie_accepted now law i x (omega (arith, s.frame.top, able.switch)) (s.frame.live x ∙ able.live k below) y (s.frame.live y ∙ able.mate k below) (able.apart k below) free (free_y (fresh free)) e f
 
   pub tie_skip : (Free now i x → ⊥) → AllTied m i After n now
   tie_skip linked =

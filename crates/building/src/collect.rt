@@ -10,10 +10,10 @@ ghost use Rattle.building.specs.Tying.{Collectable, Cleared, Ready};
 
 use crate::pairs::UNKNOWN;
 use crate::seam::Seam;
+use crate::side::far_side;
 use gmap::map::GMap;
 use gmap::refusal::Refusal;
 use gmap::tuple::Tuple;
-use questions::far_orbit;
 
 impl<C: GMap> Seam<'_, C> {
     // Sees that every tuple of a side is free in the switch, and forgets its mate.
@@ -35,7 +35,7 @@ impl<C: GMap> Seam<'_, C> {
         Ok(())
     }
 
-    // Collects the side of a tuple, the far orbit of it, in front of a list, and clears it.
+    // Collects the side of tuple t in front of a list, and clears it.
     fn collect_side<'s>(
         &self,
         t: u16,
@@ -46,8 +46,7 @@ impl<C: GMap> Seam<'_, C> {
         requires { Collectable (C.Reads.meaning self.now.map.now) t list.old places.old mates.old }
         ensures { MatchResult result (λ side. Side (C.Reads.meaning self.now.map.now) self.now.i side.now × Collected (C.Reads.meaning self.now.map.now) (Far self.now.i) t (length side.now) side.now × Cleared (C.Reads.meaning self.now.map.now) self.now.i side.now (length side.now) mates.old mates.new) (λ e. (e ≡ Misfit) × ((x : ℕ) × FarOrbit (C.Reads.meaning self.now.map.now) self.now.i t x × (Free (C.Reads.meaning self.now.map.now) self.now.i x → ⊥))) }
     {
-        let count = far_orbit(self.map, self.i, t, list, places);
-        let side = &list[..count as usize];
+        let side = far_side(self.map, self.i, t, list, places);
         self.clear_side(side, mates)?;
         Ok(side)
     }

@@ -5,6 +5,7 @@ mod collect;
 mod cut;
 mod pairs;
 mod seam;
+mod side;
 mod slots;
 mod tie;
 

@@ -1,43 +1,11 @@
-use Rattle.std.proofs.Common.{◌*◌, ◌<◌, ◌≤◌, [], ◌∷◌, length, refl, ◌∙◌, inl, inr, arith}
-use Rattle.std.proofs.lemmas.Result.{err_from_is_err_and}
-use Rattle.gmap.specs.Acts.{tie_checks}
-use Rattle.gmap.specs.Building.{Fits, join_checks}
+use Rattle.std.proofs.Common.{length, rules}
+use Rattle.gmap.specs.Building.{join_checks}
 use Rattle.gmap.specs.Map.{Same}
-use Rattle.gmap.specs.declared.refusal.Refusal.TheVariants.{Misfit}
-use Rattle.gmap.proofs.Same.{same_refl}
-use Rattle.gmap.proofs.Outcomes.{first_behind, accepted}
+use Rattle.gmap.specs.Outcome.{Passes}
+use Rattle.gmap.proofs.Outcomes.{accepted}
 use Rattle.building.proofs.Tying.{tie_like}
-use Rattle.building.proofs.Ready.{join_passes, ready_fits, ready_tieable, pairs_only, pairs_all}
+use Rattle.building.proofs.Ready.{ready_fits, ready_tieable, pairs_only, pairs_all}
 use Rattle.building.proofs.tie.join.Goals as goal
-
-pub pair_sides-requires : goal.pair_sides-requires
-pair_sides-requires g c =
-    let seam = c.in_ok-seam.seam in
-    let map = c.in_ok-seam.ensures.1.0 in
-    let size = c.size-size.ensures in
-    let one = c.split_at_mut-left.ensures in
-    let two = c.split_at_mut-right.ensures in
-    let three = c.split_at_mut-mates.ensures in
-    let deep : length c.split_at_mut-left.result.0.now ≤ length c.split_at_mut-mates.result.1.now = omega (arith, one.front_len, one.back_len, two.back_len, three.back_len, c.if-scratch-size.false) in
-    let mates = three.front_len ∙ size in
-    rw map (
-    record {
-      left = record { live = rw map at seam.able.left; room = one.front_len ∙ size; deep = deep; mates = mates };
-      right = record { live = rw map at seam.able.right; room = two.front_len ∙ size; deep = omega (arith, deep, one.front_len, two.front_len); mates = mates };
-    }
-    )
-
-pub returns-in_err-side : goal.returns-in_err-side
-returns-in_err-side g c =
-    let m = g.B.Reads.meaning c.args.board.now in
-    let (passes, (map, i, t, u)) = c.in_ok-seam.ensures in
-    let p = err_from_is_err_and c.from_residual-in_err-side.result c.from_residual-in_err-side.ensures.1 in
-    let (is, misfit) = rw (map, i, t, u) at c.in_err-side.ensures in
-    let room : length c.args.scratch.now < 4 * m.size → ⊥ = λ h. omega (arith, c.if-scratch-size.false, c.size-size.ensures) in
-    record {
-      outcome = rw (p.1, p.2, is) (inr (room, first_behind (tie_checks m c.args.i c.args.t c.args.u) ((Fits m c.args.i c.args.t c.args.u → ⊥, 7) ∷ []) Misfit passes (inl (misfit, refl))), same_refl m);
-      spared = λ h. absurd (room h);
-    }
 
 pub tie_pairs-requires : goal.tie_pairs-requires
 tie_pairs-requires g c =
@@ -46,15 +14,13 @@ tie_pairs-requires g c =
     let able = rw (map, i, t, u) at c.in_ok-seam.seam.able in
     ready_tieable _ _ _ _ (g.met.B.GMap.partners c.args.board.now) able _ _ ready
 
-pub returns : goal.returns
-returns g c =
+pub returns-clause-outcome : goal.returns-clause-outcome
+returns-clause-outcome g c =
     let m = g.B.Reads.meaning c.args.board.now in
     let law = g.met.B.GMap.partners c.args.board.now in
     let (passes, (map, i, t, u)) = c.in_ok-seam.ensures in
     let ready = rw (map, i, t, u) at c.in_ok-side.ensures in
     let able = rw (map, i, t, u) at c.in_ok-seam.seam.able in
-    let room : length c.args.scratch.now < 4 * m.size → ⊥ = λ h. omega (arith, c.if-scratch-size.false, c.size-size.ensures) in
-    record {
-      outcome = accepted (join_checks m (length c.args.scratch.now) c.args.i c.args.t c.args.u) _ _ (Same (g.B.Reads.meaning c.tie_pairs.new.board) m) _ (join_passes m _ _ _ _ room passes (ready_fits m _ _ _ law able _ _ ready)) c.tie_pairs.ensures (λ n s. tie_like m _ _ _ n _ (pairs_only m _ _ _ law able _ _ ready) (pairs_all m _ _ _ law able _ _ ready) s);
-      spared = λ h. absurd (room h);
-    }
+    let fits = ready_fits m _ _ _ law able _ _ ready in
+    let passed : Passes (join_checks m (length c.args.scratch.now) c.args.i c.args.t c.args.u) = search rules in
+    accepted (join_checks m (length c.args.scratch.now) c.args.i c.args.t c.args.u) _ _ (Same (g.B.Reads.meaning c.tie_pairs.new.board) m) _ passed c.tie_pairs.ensures (λ n s. tie_like m _ _ _ n _ (pairs_only m _ _ _ law able _ _ ready) (pairs_all m _ _ _ law able _ _ ready) s)

@@ -1,11 +1,8 @@
-use Rattle.std.proofs.Common.{sym, ◌∙◌, arith}
-use Rattle.building.proofs.Clearing.{cleared_none, cleared_more}
+use Rattle.std.proofs.Common.{arith}
+use Rattle.building.proofs.Clearing.{cleared_more}
 use Rattle.building.proofs.seam.Seam.clear_side.Goals as goal
-
-pub loop-x-init : goal.loop-x-init
-loop-x-init g c = cleared_none _ _ _ _
 
 pub loop-x-preserved : goal.loop-x-preserved
 loop-x-preserved g c =
     let inside = (g.met.C.GMap.partners c.args.self.now.map.now).inside _ (c.requires.side.live c.loop-x.x-index (omega arith)) in
-    cleared_more _ _ _ _ _ _ (omega (arith, inside, c.requires.long, c.loop-x.invariant.marked.long)) (sym c.partner.ensures.slot ∙ c.if-partner-x.false) c.loop-x.invariant
+    cleared_more _ _ _ _ _ _ (omega (arith, inside, c.requires.long, c.loop-x.invariant.marked.long)) (omega (arith, c.partner.ensures.slot, c.if-partner-x.false)) c.loop-x.invariant

@@ -1,7 +1,5 @@
-use Rattle.std.proofs.Common.{subst₂, arith}
-use Rattle.building.specs.Mates.{Couples, Clashes}
+use Rattle.std.proofs.Common.{arith, rules}
 use Rattle.building.proofs.Matching.{side_live, mate_live, next_pair, followed_skip, followed_more, clash}
-use Rattle.building.proofs.Refused.{handed_on}
 use Rattle.building.proofs.seam.Seam.follow.Goals as goal
 use Rattle.building.proofs.seam.Seam.follow.Goals.{then-far+in_ok-couple, else-far}
 
@@ -26,9 +24,9 @@ returns-in_err-couple g c =
     let seam = c.args.self.now in
     let law = g.met.C.GMap.partners seam.map.now in
     let pair = next_pair _ law _ _ _ seam.able _ _ c.requires.side c.loop-j.j _ c.loop-j.invariant c.requires.mates c.requires.known c.if-far.ensures in
-    let (is, met) = c.in_err-couple.ensures in
-    let clashes = subst₂ (λ x y. Clashes x y c.loop-j.mates) c.partner.ensures.slot c.partner-then-far.ensures.slot met in
-    handed_on _ _ _ _ c.from_residual.ensures.1 (is, clash _ law _ _ _ seam.able _ c.loop-j.invariant.mates _ _ pair clashes)
+    let clashes = rw (c.partner.ensures.slot, c.partner-then-far.ensures.slot) at c.in_err-couple.ensures.1 in
+    let misfit = clash _ law _ _ _ seam.able _ c.loop-j.invariant.mates _ _ pair clashes in
+    search rules
 
 pub loop-j-preserved : goal.loop-j-preserved
 loop-j-preserved g c =
@@ -36,7 +34,7 @@ loop-j-preserved g c =
     let law = g.met.C.GMap.partners seam.map.now in
     elim c.if-far.branch [
       | then-far+in_ok-couple w ↦
-          let couples = subst₂ (λ x y. Couples x y c.loop-j.mates w.couple.new.mates) w.partner.ensures.slot w.partner-then-far.ensures.slot w.in_ok-couple.ensures in
+          let couples = rw (w.partner.ensures.slot, w.partner-then-far.ensures.slot) at w.in_ok-couple.ensures in
           rw w.mates-is (followed_more _ law _ _ _ seam.able _ _ c.requires.side _ _ c.loop-j.invariant c.requires.mates c.requires.known w.if-far.ensures _ couples)
       | else-far w ↦ rw w.mates-is (followed_skip _ law _ _ _ seam.able _ _ c.requires.side _ _ c.loop-j.invariant w.if-far.ensures)
     ]
