@@ -1,15 +1,18 @@
 -- Tying the tuples of the edge to the new ones: one more of them.
-use Rattle.std.proofs.Common.{◌≡◌, ℕ, ◌+◌, ◌<◌, ◌≤◌, sym, ap, ◌∙◌, subst, inl, inr, ⊎_elim, arith, below_more}
+use Rattle.std.proofs.Common.{◌≡◌, ℕ, ◌+◌, ◌<◌, ◌≤◌, sym, refl, ap, ◌∙◌, subst, inl, inr, ⊎_elim, arith, below_more}
 use Rattle.std.proofs.lemmas.Bool.{cases_eq, cases_lt}
 use Rattle.gmap.specs.Map.{Map, Partners, Free}
-use Rattle.splitting.specs.Edges.{count, member, Tieable}
+use Rattle.splitting.specs.Edges.{count, member, IsBeside, Tieable}
 use Rattle.splitting.specs.Stages.{Retied, Ended}
 use Rattle.splitting.specs.declared.edge.Edge.{Edge}
 use Rattle.splitting.proofs.Frames.{frame_then}
 use Rattle.splitting.proofs.Places.{same_place}
 
 module _ (m : Map) (edge : Edge) (able : Tieable m edge) where
-  module _ (k : ℕ) (h : k < count edge) (now : Map) (law : Partners now) (w : Ended m edge k now) (next : Map) (v : Retied (member edge k) (edge.first + k) now next) where
+  module _ (k : ℕ) (h : k < count edge) (now : Map) (law : Partners now) (w : Ended m edge k now) (next : Map) (y : ℕ) (beside : IsBeside edge (member edge k) y) (tied : Retied (member edge k) y now next) where
+    v : Retied (member edge k) (edge.first + k) now next
+    v = rw (beside k h refl) at tied
+
     abbrev p : ℕ
     p = now.partner 0 (member edge k)
 
