@@ -1,6 +1,6 @@
 -- Linking the new tuples as those of the edge: one place after the other, and one switch after the other.
-use Rattle.std.proofs.Common.{◌≡◌, ℕ, ◌+◌, ◌<◌, ◌≤◌, ◌⊎◌, sym, refl, ap, ◌∙◌, subst, inl, inr, ⊎_elim, arith}
-use Rattle.std.proofs.lemmas.Bool.{cases_eq, cases_lt}
+use Rattle.std.proofs.Common.{◌≡◌, ℕ, ◌+◌, ◌<◌, ◌≤◌, ◌⊎◌, sym, refl, ap, ◌∙◌, subst, inl, ⊎_elim, arith}
+use Rattle.std.proofs.lemmas.Bool.{cases_eq}
 use Rattle.gmap.specs.Map.{Map, Partners, Free, Same}
 use Rattle.gmap.specs.Acts.{tie_checks, tied}
 use Rattle.gmap.specs.Listing.{Among}
@@ -29,10 +29,10 @@ module _ (m : Map) (law : Partners m) (j : ℕ) (edge : Edge) (able : Linkable m
     read_is : member edge (q k) ≡ partner
     read_is =
         let old : now.partner switch (member edge k) ≡ m.partner switch (member edge k) = ⊎_elim
-            (λ e. rw e (w.rest (member edge k) (λ l c p. able.seated.new k l h c p)))
-            (λ e. w.frame.others switch (member edge k) e)
-            (cases_eq switch j) in
-        place_is m edge able.seated.closed (under j) (under_off j) k h ∙ sym (look ∙ old ∙ ap (λ i. m.partner i (member edge k)) is)
+        (λ e. rw e (w.rest (member edge k) (λ l c p. able.seated.new k l h c p)))
+        (λ e. w.frame.others switch (member edge k) e)
+        (cases_eq switch j) in
+        cc (place_is m edge able.seated.closed (under j) (under_off j) k h)
 
     pub read_among : Among edge.members.now (count edge) partner
     read_among = (q k, inside k h, read_is)
@@ -49,13 +49,7 @@ module _ (m : Map) (law : Partners m) (j : ℕ) (edge : Edge) (able : Linkable m
       link_skip le = record { frame = w.frame; links = links; free = λ l c s u. w.free l c (omega arith) (omega arith); rest = w.rest }
         where
           links : (l : ℕ) → l < count edge → (l < k + 1) ⊎ (q l < k + 1) → now.partner j (edge.first + l) ≡ edge.first + q l
-          links l c d =
-              ⊎_elim (λ s. w.links l c (inl s)) (λ s. ⊎_elim (λ u. w.links l c (inr u)) (λ u.
-              let e : q l ≡ l = ⊎_elim
-                  (λ v. let e : l ≡ k = omega arith in omega (arith, ap q e, one, other))
-                  (λ v. let e : q l ≡ k = omega arith in omega (arith, back l c, ap q e, one, other))
-                  d in
-              w.free l c s u ∙ omega arith) (cases_lt (q l) k)) (cases_lt l k)
+          links l c d = grind (arith, w.links l c, w.free l c, back l c, one, other)
 
       pub tie_passes : low < high → Partners now → (e : Refusal) → First (tie_checks now j low high) e → ⊥
       tie_passes lt law' =
@@ -71,18 +65,15 @@ module _ (m : Map) (law : Partners m) (j : ℕ) (edge : Edge) (able : Linkable m
           links : (l : ℕ) → l < count edge → (l < k + 1) ⊎ (q l < k + 1) → (tied now j low high).partner j (edge.first + l) ≡ edge.first + q l
           links l c d =
               ⊎_elim
-              (λ s. ap ((tied now j low high).partner j) (omega (arith, one)) ∙ tied_left now j low high ∙ omega (arith, ap q s, other))
+              (λ s. grind (arith, tied_left now j low high, one, other))
               (λ s. ⊎_elim
-              (λ u. ap ((tied now j low high).partner j) (omega (arith, other)) ∙ tied_right now j low high (λ e. omega arith) ∙ omega (arith, ap q u, back k h, one))
-              (λ u. let ne : q l ≡ k → ⊥ = λ g. u (sym (back l c) ∙ ap q g) in
-              tied_rest now j low high (edge.first + l) (λ e. omega (arith, one)) (λ e. omega (arith, other)) ∙ w.links l c (⊎_elim (λ t. inl (omega arith)) (λ t. inr (omega arith)) d))
+              (λ u. grind (arith, tied_right now j low high, back k h, one, other))
+              (λ u. grind (arith, tied_rest now j low high (edge.first + l), w.links l c, back l c, one, other))
               (cases_eq l (q k)))
               (cases_eq l k)
 
           free : (l : ℕ) → l < count edge → k + 1 ≤ l → k + 1 ≤ q l → Free (tied now j low high) j (edge.first + l)
-          free l c s u =
-              let ne : l ≡ q k → ⊥ = λ e. omega (arith, ap q e, back k h) in
-              tied_rest now j low high (edge.first + l) (λ e. omega (arith, one)) (λ e. omega (arith, other)) ∙ w.free l c (omega arith) (omega arith)
+          free l c s u = grind (arith, tied_rest now j low high (edge.first + l), w.free l c, back l c, back k h, one, other)
 
 -- one switch more
 module _ (m : Map) (edge : Edge) (s : Seated m edge) (j : ℕ) (above : 1 ≤ j) (now : Map) (w : AllLinked m edge j now) where
