@@ -1,6 +1,6 @@
 -- The new tuples beside those of an edge, by the places of these in the edge's list.
-use Rattle.std.proofs.Common.{◌≡◌, ℕ, ◌+◌, ◌-◌, ◌<◌, ◌≤◌, true, ◌⊎◌, List, length, get_or, slice_index, take, sym, refl, ap, ◌∙◌, subst, ⊎_elim, arith}
-use Rattle.std.proofs.lemmas.Bool.{both_ways, cases_lt, cases_order}
+use Rattle.std.proofs.Common.{◌≡◌, ℕ, ◌+◌, ◌-◌, ◌<◌, ◌≤◌, true, ◌⊎◌, List, length, get_or, take, sym, refl, ap, ◌∙◌, subst, ⊎_elim, arith}
+use Rattle.std.proofs.lemmas.Bool.{both_ways, cases_lt}
 use Rattle.std.proofs.lemmas.List.{get_or-take, length-take-le}
 use Rattle.gmap.specs.Map.{Map, Partners}
 use Rattle.gmap.specs.Listing.{Counts, Ranked}
@@ -24,8 +24,7 @@ module _ (m : Map) (t n : ℕ) (xs ranks : List ℕ) (r : Ranked (Cell m 1 t) n 
   below_counts : (k : ℕ) → k < n → Counts (λ y. Cell m 1 t y × (y < get_or xs k 0)) k
   below_counts k h =
       counts_front (λ y. Cell m 1 t y × (y < get_or xs k 0)) xs k (omega (arith, r.fits)) (λ j l b c. apart j l b (omega arith)) (λ j b. (r.only j (omega arith), r.rises j k b h))
-      (λ y (on, lt). let (j, b, e) = r.all y on in
-      ⊎_elim (λ c. (j, c, e)) (λ c. absurd (⊎_elim (λ z. omega (arith, ap (λ v. get_or xs v 0) z)) (⊎_elim (λ z. omega (arith, r.rises k j z b)) (λ z. omega arith)) (cases_order k j))) (cases_lt j k))
+      (λ y (on, lt). let (j, b, e) = r.all y on in (j, grind (arith, r.rises k j, ap (λ v. get_or xs v 0), e), e))
 
   module _ (f : ℕ) where
     pub beside_at : (k : ℕ) → k < n → Beside m t f (get_or xs k 0) (f + k)
@@ -95,16 +94,12 @@ module _ (m : Map) (law : Partners m) (t : ℕ) (live : m.live t ≡ true) (edge
     meet : (x x' y' : ℕ) → Stands x x' → Stands (m.partner 0 x) y' → m'.partner 1 x' ≡ y'
     meet x x' y' a b =
         let (k, l, h, v, z, e) = partner_place 0 x x' y' (λ o. omega arith) a b in
-        ap (m'.partner 1) v ∙ s.links 1 k (omega arith) (omega arith) h ∙ ap (λ i. edge.first + place m edge i k) (under_one 1 refl) ∙ ap (λ w. edge.first + w) e ∙ sym z
+        cc (s.links 1 k (omega arith) (omega arith) h, under_one 1 refl)
 
     along : (j x x' y' : ℕ) → 2 ≤ j → Stands x x' → Stands (m.partner j x) y' → m'.partner j x' ≡ y'
     along j x x' y' o a b =
         let (k, l, h, v, z, e) = partner_place j x x' y' (λ w. omega arith) a b in
-        ⊎_elim
-        (λ c. let is : k ≡ l = sym (edge.ranked k h) ∙ ap (λ w. slice_index edge.ranks.now w) (sym (law.high j (member edge k) c)) ∙ e in
-        law'.high j x' (omega (arith, s.top)) ∙ v ∙ ap (λ w. edge.first + w) is ∙ sym z)
-        (λ c. ap (m'.partner j) v ∙ s.links j k (omega arith) c h ∙ ap (λ i. edge.first + place m edge i k) (under_other j (λ w. omega arith)) ∙ ap (λ w. edge.first + w) e ∙ sym z)
-        (cases_lt m.top j)
+        ⊎_elim (λ c. cc (edge.ranked k h, law.high j (member edge k) c, law'.high j x' (omega (arith, s.top)))) (λ c. cc (s.links j k (omega arith) c h, under_other j (λ w. omega arith))) (cases_lt m.top j)
 
     pub split_at : SplitAt m t edge.first (edge.first, count edge) m'
     split_at =

@@ -1,6 +1,6 @@
 -- Linking the new tuples as those of the edge: one place after the other, and one switch after the other.
-use Rattle.std.proofs.Common.{◌≡◌, ℕ, ◌+◌, ◌<◌, ◌≤◌, ◌⊎◌, sym, ap, ◌∙◌, subst, inl, inr, ⊎_elim, arith}
-use Rattle.std.proofs.lemmas.Bool.{cases_eq, cases_lt}
+use Rattle.std.proofs.Common.{◌≡◌, ℕ, ◌+◌, ◌<◌, ◌≤◌, ◌⊎◌, sym, refl, ap, ◌∙◌, subst, inl, ⊎_elim, arith}
+use Rattle.std.proofs.lemmas.Bool.{cases_eq}
 use Rattle.gmap.specs.Map.{Map, Partners, Free, Same}
 use Rattle.gmap.specs.Acts.{tie_checks, tied}
 use Rattle.gmap.specs.Listing.{Among}
@@ -8,7 +8,7 @@ use Rattle.gmap.specs.Outcome.{First}
 use Rattle.gmap.specs.declared.refusal.Refusal.{Refusal}
 use Rattle.gmap.proofs.Acts.{tie_accepted, tied_frame, tied_left, tied_right, tied_rest}
 use Rattle.gmap.proofs.Same.{same_path}
-use Rattle.splitting.specs.Edges.{under, count, member, place, Seated, Linkable}
+use Rattle.splitting.specs.Edges.{under, IsBeside, count, member, place, Seated, Linkable}
 use Rattle.splitting.specs.Stages.{Linked, AllLinked}
 use Rattle.splitting.specs.declared.edge.Edge.{Edge}
 use Rattle.splitting.proofs.Frames.{frame_then}
@@ -24,61 +24,56 @@ module _ (m : Map) (law : Partners m) (j : ℕ) (edge : Edge) (able : Linkable m
   back : (l : ℕ) → l < count edge → q (q l) ≡ l
   back = place_back m edge law able.seated.closed (under j) (under_off j)
 
-  module _ (k : ℕ) (h : k < count edge) (now : Map) (w : Linked m j edge k now) where
-    module _ (switch partner : ℕ) (is : switch ≡ under j) (look : partner ≡ now.partner switch (member edge k)) where
-      -- the partner that is read is the one of the start
-      read_is : member edge (q k) ≡ partner
-      read_is =
-          let old : now.partner switch (member edge k) ≡ m.partner switch (member edge k) = ⊎_elim
-              (λ e. rw e (w.rest (member edge k) (λ l c p. able.seated.new k l h c p)))
-              (λ e. w.frame.others switch (member edge k) e)
-              (cases_eq switch j) in
-          place_is m edge able.seated.closed (under j) (under_off j) k h ∙ sym (look ∙ old ∙ ap (λ i. m.partner i (member edge k)) is)
+  module _ (k : ℕ) (h : k < count edge) (now : Map) (w : Linked m j edge k now) (switch partner : ℕ) (is : switch ≡ under j) (look : partner ≡ now.partner switch (member edge k)) where
+    -- the partner that is read is the one of the start
+    read_is : member edge (q k) ≡ partner
+    read_is =
+        let old : now.partner switch (member edge k) ≡ m.partner switch (member edge k) = ⊎_elim
+        (λ e. rw e (w.rest (member edge k) (λ l c p. able.seated.new k l h c p)))
+        (λ e. w.frame.others switch (member edge k) e)
+        (cases_eq switch j) in
+        cc (place_is m edge able.seated.closed (under j) (under_off j) k h)
 
-      pub read_among : Among edge.members.now (count edge) partner
-      read_among = (q k, inside k h, read_is)
+    pub read_among : Among edge.members.now (count edge) partner
+    read_among = (q k, inside k h, read_is)
 
-      pub read_beside : (x : ℕ) → ((l : ℕ) → l < count edge → member edge l ≡ partner → x ≡ edge.first + l) → x ≡ edge.first + q k
-      read_beside x beside = beside (q k) (inside k h) read_is
+    module _ (low high : ℕ) (low_is : IsBeside edge (member edge k) low) (high_is : IsBeside edge partner high) where
+      one : low ≡ edge.first + k
+      one = low_is k h refl
 
-    -- the place's partner stands before it, or is itself
-    pub link_skip : q k ≤ k → Linked m j edge (k + 1) now
-    link_skip le = record { frame = w.frame; links = links; free = λ l c s u. w.free l c (omega arith) (omega arith); rest = w.rest }
-      where
-        links : (l : ℕ) → l < count edge → (l < k + 1) ⊎ (q l < k + 1) → now.partner j (edge.first + l) ≡ edge.first + q l
-        links l c d =
-            ⊎_elim (λ s. w.links l c (inl s)) (λ s. ⊎_elim (λ u. w.links l c (inr u)) (λ u.
-            let e : q l ≡ l = ⊎_elim
-                (λ v. let e : l ≡ k = omega arith in omega (arith, ap q e))
-                (λ v. let e : q l ≡ k = omega arith in omega (arith, back l c, ap q e))
-                d in
-            w.free l c s u ∙ omega arith) (cases_lt (q l) k)) (cases_lt l k)
+      other : high ≡ edge.first + q k
+      other = high_is (q k) (inside k h) read_is
 
-    module _ (low high : ℕ) (one : low ≡ edge.first + k) (other : high ≡ edge.first + q k) (lt : low < high) where
-      pub tie_passes : Partners now → (e : Refusal) → First (tie_checks now j low high) e → ⊥
-      tie_passes law' =
+      -- the partner stands before the tuple, or is it
+      pub link_skip : high ≤ low → Linked m j edge (k + 1) now
+      link_skip le = record { frame = w.frame; links = links; free = λ l c s u. w.free l c (omega arith) (omega arith); rest = w.rest }
+        where
+          links : (l : ℕ) → l < count edge → (l < k + 1) ⊎ (q l < k + 1) → now.partner j (edge.first + l) ≡ edge.first + q l
+          links l c d = grind (arith, w.links l c, w.free l c, back l c, one, other)
+
+      pub tie_passes : low < high → Partners now → (e : Refusal) → First (tie_checks now j low high) e → ⊥
+      tie_passes lt law' =
+          let later : k < q k = omega (arith, one, other) in
           rw (one, other) (tie_accepted now law' j _ (omega (arith, w.frame.top, able.switch)) (w.frame.live _ ∙ able.seated.born k h) _ (w.frame.live _ ∙ able.seated.born (q k) (inside k h)) (λ e. omega arith)
           (w.free k h (omega arith) (omega arith)) (w.free (q k) (inside k h) (omega arith) (omega (arith, back k h))))
 
-      pub link_more : (next : Map) → Same next (tied now j low high) → Linked m j edge (k + 1) next
-      link_more next same =
-          subst (Linked m j edge (k + 1)) (sym (same_path next (tied now j low high) same)) (record { frame = frame_then w.frame (tied_frame now j low high); links = links; free = free; rest = λ y off. tied_rest now j low high y (λ e. off k h (e ∙ one)) (λ e. off (q k) (inside k h) (e ∙ other)) ∙ w.rest y off })
+      pub link_more : low < high → (next : Map) → Same next (tied now j low high) → Linked m j edge (k + 1) next
+      link_more lt next same =
+          subst (Linked m j edge (k + 1)) (sym (same_path next (tied now j low high) same))
+          (record { frame = frame_then w.frame (tied_frame now j low high); links = links; free = free; rest = λ y off. tied_rest now j low high y (λ e. off k h (e ∙ one)) (λ e. off (q k) (inside k h) (e ∙ other)) ∙ w.rest y off })
         where
           links : (l : ℕ) → l < count edge → (l < k + 1) ⊎ (q l < k + 1) → (tied now j low high).partner j (edge.first + l) ≡ edge.first + q l
           links l c d =
               ⊎_elim
-              (λ s. ap ((tied now j low high).partner j) (omega arith) ∙ tied_left now j low high ∙ omega (arith, ap q s))
+              (λ s. grind (arith, tied_left now j low high, one, other))
               (λ s. ⊎_elim
-              (λ u. ap ((tied now j low high).partner j) (omega arith) ∙ tied_right now j low high (λ e. omega arith) ∙ omega (arith, ap q u, back k h))
-              (λ u. let ne : q l ≡ k → ⊥ = λ g. u (sym (back l c) ∙ ap q g) in
-              tied_rest now j low high (edge.first + l) (λ e. omega arith) (λ e. omega arith) ∙ w.links l c (⊎_elim (λ t. inl (omega arith)) (λ t. inr (omega arith)) d))
+              (λ u. grind (arith, tied_right now j low high, back k h, one, other))
+              (λ u. grind (arith, tied_rest now j low high (edge.first + l), w.links l c, back l c, one, other))
               (cases_eq l (q k)))
               (cases_eq l k)
 
           free : (l : ℕ) → l < count edge → k + 1 ≤ l → k + 1 ≤ q l → Free (tied now j low high) j (edge.first + l)
-          free l c s u =
-              let ne : l ≡ q k → ⊥ = λ e. omega (arith, ap q e, back k h) in
-              tied_rest now j low high (edge.first + l) (λ e. omega arith) (λ e. omega arith) ∙ w.free l c (omega arith) (omega arith)
+          free l c s u = grind (arith, tied_rest now j low high (edge.first + l), w.free l c, back l c, back k h, one, other)
 
 -- one switch more
 module _ (m : Map) (edge : Edge) (s : Seated m edge) (j : ℕ) (above : 1 ≤ j) (now : Map) (w : AllLinked m edge j now) where

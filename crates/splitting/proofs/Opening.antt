@@ -1,23 +1,19 @@
--- Opening the slots of the new tuples, one after the other.
-use Rattle.std.proofs.Common.{◌≡◌, ℕ, ◌+◌, true, eqb, refl, ◌∙◌, arith, below_more}
-use Rattle.std.proofs.lemmas.Bool.{eq-eqb, ne_eqb, cond-true, cond-false}
+-- Opening the slots of the new tuples: one more of them.
+use Rattle.std.proofs.Common.{◌≡◌, ℕ, ◌+◌, ◌<◌, refl, ◌∙◌, arith}
+use Rattle.std.proofs.lemmas.Bool.Decides.{nat_tests}
 use Rattle.gmap.specs.Map.{Map, Same}
 use Rattle.gmap.specs.Acts.{opened}
+use Rattle.splitting.specs.Edges.{count, member, IsBeside}
 use Rattle.splitting.specs.Stages.{Opened}
+use Rattle.splitting.specs.declared.edge.Edge.{Edge}
 
-pub opened_none : (f : ℕ) (m : Map) → Opened f 0 m m
-opened_none f m = record { size = refl; top = refl; born = λ l h. absurd (omega arith); as_live = λ y q. refl; partner = λ i y. refl }
-
-module _ (f k : ℕ) (m now : Map) (s : Opened f k m now) where
-  pub opened_more : (next : Map) → Same next (opened now (f + k)) → Opened f (k + 1) m next
-  opened_more next same =
-      let elsewhere : (y : ℕ) → (y ≡ f + k → ⊥) → next.live y ≡ now.live y = λ y e. same.live y ∙ cond-false (eqb y (f + k)) true (now.live y) (ne_eqb y (f + k) e) in
-      record {
-        size = same.size ∙ s.size;
-        top = same.top ∙ s.top;
-        born = below_more (λ l. next.live (f + l) ≡ true) k
-            (λ l h. elsewhere (f + l) (λ e. omega arith) ∙ s.born l h)
-            (same.live (f + k) ∙ cond-true (eqb (f + k) (f + k)) true (now.live (f + k)) (eq-eqb (f + k) (f + k) refl));
-        as_live = λ y q. elsewhere y (q k (omega arith)) ∙ s.as_live y (λ l h. q l (omega arith));
-        partner = λ i y. same.partner i y ∙ s.partner i y;
-      }
+pub opened_more : (m : Map) (edge : Edge) (k : ℕ) → k < count edge → (now : Map) → Opened edge.first k m now → (x : ℕ) → IsBeside edge (member edge k) x → (next : Map) → Same next (opened now x) → Opened edge.first (k + 1) m next
+opened_more m edge k h now s x beside next same =
+    let is : x ≡ edge.first + k = beside k h refl in
+    record {
+      size = same.size ∙ s.size;
+      top = same.top ∙ s.top;
+      born = λ l b. grind (arith, nat_tests, same.live (edge.first + l), s.born l, is);
+      as_live = λ y q. grind (arith, nat_tests, same.live y, s.as_live y (λ l b. q l (omega arith)), q k (omega arith), is);
+      partner = λ i y. same.partner i y ∙ s.partner i y;
+    }

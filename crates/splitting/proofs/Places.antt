@@ -1,23 +1,23 @@
 -- The places of the partners of an edge's tuples.
-use Rattle.std.proofs.Common.{◌≡◌, ℕ, ◌<◌, eqb, slice_index, sym, ap, ◌∙◌, ⊎_elim, arith}
-use Rattle.std.proofs.lemmas.Bool.{cases_eq, eq-eqb, ne_eqb, cond-true, cond-false}
+use Rattle.std.proofs.Common.{◌≡◌, ℕ, ◌<◌, slice_index, sym, ap, ◌∙◌, arith}
+use Rattle.std.proofs.lemmas.Bool.Decides.{nat_tests}
 use Rattle.gmap.specs.Map.{Map, Partners}
 use Rattle.splitting.specs.Edges.{under, count, member, place, Closed, Seated}
 use Rattle.splitting.specs.declared.edge.Edge.{Edge}
 
 pub under_one : (j : ℕ) → j ≡ 1 → under j ≡ 0
-under_one j e = cond-true (eqb j 1) 0 j (eq-eqb j 1 e)
+under_one j e = grind (arith, nat_tests)
 
 pub under_other : (j : ℕ) → (j ≡ 1 → ⊥) → under j ≡ j
-under_other j e = cond-false (eqb j 1) 0 j (ne_eqb j 1 e)
+under_other j e = grind (arith, nat_tests)
 
 -- no switch of the new vertex mirrors switch 1
 pub under_off : (j : ℕ) → under j ≡ 1 → ⊥
-under_off j h = ⊎_elim (λ e. omega (arith, under_one j e)) (λ e. e (sym (under_other j e) ∙ h)) (cases_eq j 1)
+under_off j h = grind (arith, under_one j, under_other j)
 
 -- the tuples of an edge are different
 pub same_place : (edge : Edge) (k l : ℕ) → k < count edge → l < count edge → member edge k ≡ member edge l → k ≡ l
-same_place edge k l h b e = sym (edge.ranked k h) ∙ ap (λ x. slice_index edge.ranks.now x) e ∙ edge.ranked l b
+same_place edge k l h b e = grind (arith, edge.ranked k h, edge.ranked l b)
 
 module _ (m : Map) (edge : Edge) (closed : Closed m edge) (i : ℕ) (on : i ≡ 1 → ⊥) (k : ℕ) (h : k < count edge) where
   pub place_of : (l : ℕ) → l < count edge → member edge l ≡ m.partner i (member edge k) → place m edge i k ≡ l

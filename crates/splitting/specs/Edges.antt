@@ -2,6 +2,7 @@
 --   under        the switch of the edge that a switch of the new vertex mirrors
 --   count        how many tuples the edge has
 --   member       the one at a place
+--   IsBeside     the number of the new tuple beside a tuple of the edge
 --   place        where the partner of the tuple at a place stands
 --   Closed       the edge's tuples are there, and their partners in all switches but 1 are among them
 --   Vacancies    the slots from a number on, as many as are wanted, are there, and vacant
@@ -23,6 +24,9 @@ count e = length e.members.now
 
 abbrev pub member : Edge → ℕ → ℕ
 member e k = slice_index e.members.now k
+
+abbrev pub IsBeside : Edge → ℕ → ℕ → Type 0
+IsBeside e x x' = (k : ℕ) → k < count e → member e k ≡ x → x' ≡ e.first + k
 
 abbrev pub place : Map → Edge → ℕ → ℕ → ℕ
 place m e i k = slice_index e.ranks.now (m.partner i (member e k))

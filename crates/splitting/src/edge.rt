@@ -1,6 +1,5 @@
 // The edge that is split, and the numbers of the new tuples.
 ghost use Rattle.std.specs.Prelude.{◌≡◌, ℕ, ◌+◌, ◌<◌, ◌≤◌, length, slice_index};
-ghost use Rattle.gmap.specs.Listing.{Among};
 
 // The tuples of the edge, the place of each in their list, and the first of the numbers of the new tuples.
 // A new tuple stands beside each of the edge; they are numbered upwards in the order of the list.
@@ -15,10 +14,13 @@ pub struct Edge<'a> {
 }
 
 impl Edge<'_> {
+    ghost use Rattle.gmap.specs.Listing.{Among};
+    ghost use Rattle.splitting.specs.Edges.{count, IsBeside};
+
     // The number of the new tuple beside tuple x of the edge.
     pub fn beside(&self, x: u16) -> u16
-        requires { Among self.now.members.now (length self.now.members.now) x }
-        ensures { (k : ℕ) → k < length self.now.members.now → slice_index self.now.members.now k ≡ x → result ≡ self.now.first + k }
+        requires { Among self.now.members.now (count self.now) x }
+        ensures { IsBeside self.now x result }
     {
         self.first + self.ranks[x as usize]
     }

@@ -9,6 +9,7 @@ use gmap::map::GMapMut;
 use gmap::refusal::Refusal;
 
 // Ties x in switch 0 to y, which is free in it, in place of its partner.
+// The board changes, so x and y are bare slots: a `Tuple` would borrow it.
 fn tie_end<B: GMapMut>(board: &mut B, x: u16, y: u16) -> Result<(), Refusal>
     requires left { (B.Reads.meaning board.old).live x ≡ true }
     requires right { (B.Reads.meaning board.old).live y ≡ true }

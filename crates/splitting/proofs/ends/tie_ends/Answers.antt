@@ -6,7 +6,4 @@ pub tie_end-requires-clause-apart : goal.tie_end-requires-clause-apart
 tie_end-requires-clause-apart g c = rw (c.beside.ensures c.loop-x.x-index (omega arith) refl) (c.requires.seated.new _ _ (omega arith) (omega arith))
 
 pub loop-x-preserved : goal.loop-x-preserved
-loop-x-preserved g c =
-    let k = c.loop-x.x-index in
-    let retied = rw (c.beside.ensures k (omega arith) refl) at c.in_ok-tie_end.ensures in
-    ended_more _ _ c.requires k (omega arith) _ (g.met.B.GMap.partners c.loop-x.board) c.loop-x.invariant _ retied
+loop-x-preserved g c = ended_more _ _ c.requires _ (omega arith) _ (g.met.B.GMap.partners c.loop-x.board) c.loop-x.invariant _ _ c.beside.ensures c.in_ok-tie_end.ensures
