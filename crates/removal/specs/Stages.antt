@@ -18,6 +18,7 @@ use Rattle.removal.specs.Crossing.{In, Crosses}
 abbrev pub Ranks : List ℕ → List ℕ → Type 0
 Ranks xs ranks = (k : ℕ) → k < length xs → slice_index ranks (slice_index xs k) ≡ k
 
+-- closed says it of what is outside: it stays outside in all switches but i
 pub record Celled (m : Map) (i : ℕ) (xs : List ℕ) : Type 0 where
   pub switch : i < m.top
   pub few : length xs ≤ m.size

@@ -9,8 +9,8 @@ loop-a-preserved g c =
     let law = g.met.C.GMap.partners cell.map.now in
     let slot : c.partner-x.result.slot < (g.C.Reads.meaning cell.map.now).size = search rules in
     elim c.if-x-y.branch [
-      | then-x-y w ↦ rw (w.count-is, w.borders-is, w.ends-is) (bridged_more law (omega arith) c.loop-a.invariant c.partner-x.ensures.slot c.walk-y.ensures w.if-x-y.true (omega (arith, c.loop-a.invariant.few, cell.celled.few)) (omega (arith, slot)))
-      | else-x-y w ↦ rw (w.count-is, w.borders-is, w.ends-is) (bridged_skip law (omega arith) c.loop-a.invariant c.partner-x.ensures.slot c.walk-y.ensures w.if-x-y.false)
+      | then-x-y w ↦ rw (w.count-is, w.borders-is, w.ends-is) (bridged_more law (omega arith) c.loop-a.invariant c.partner-x.ensures.slot c.walk-y.ensures (λ e. omega arith) (omega (arith, c.loop-a.invariant.few, cell.celled.few)) (omega (arith, slot)))
+      | else-x-y w ↦ rw (w.count-is, w.borders-is, w.ends-is) (bridged_skip law (omega arith) c.loop-a.invariant c.partner-x.ensures.slot c.walk-y.ensures (omega arith))
     ]
 
 pub returns : goal.returns

@@ -1,3 +1,4 @@
+use Rattle.std.proofs.Common.{arith}
 use Rattle.removal.proofs.Walks.{trail_more, trail_out, trail_end}
 use Rattle.removal.proofs.crossing.Crossing.walk.Goals as goal
 
@@ -8,4 +9,4 @@ pub loop-preserved : goal.loop-preserved
 loop-preserved g c = record { map = cc; trail = trail_more (g.met.C.GMap.partners c.args.self.now.map.now) c.args.self.now.celled c.if-has.ensures c.loop.invariant.trail c.if-not-has.ensures _ cc }
 
 pub returns : goal.returns
-returns g c = trail_end (g.met.C.GMap.partners c.args.self.now.map.now) c.args.self.now.celled c.if-has.ensures c.loop.invariant.trail c.loop-test.false
+returns g c = trail_end (g.met.C.GMap.partners c.args.self.now.map.now) c.args.self.now.celled c.if-has.ensures c.loop.invariant.trail (omega arith)
