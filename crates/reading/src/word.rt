@@ -5,7 +5,7 @@ ghost use Rattle.reading.specs.Counts.{counted, numbers_of};
 ghost use Rattle.reading.specs.Openings.{named};
 ghost use Rattle.reading.specs.Requests.{ordered};
 
-use crate::cut::split_first;
+use crate::cut::Pieces;
 use crate::number::number;
 use std::alloc::{AllocError, Global};
 
@@ -142,14 +142,11 @@ pub fn words<'a>(heap: Global, line: u32, bytes: &'a [u8]) -> Result<Vec<Word<'a
     ensures { IfOk result (λ v. Reads line v.items bytes.now) }
 {
     let mut found = Vec::new(heap);
-    let mut rest = bytes;
-    while !rest.is_empty() {
-        let (front, back) = split_first(rest, b' ');
-        rest = back;
-        if front.is_empty() {
+    for piece in Pieces::new(bytes, b' ') {
+        if piece.is_empty() {
             continue;
         }
-        found.push(Word::read(Part { line, bytes: front }))?;
+        found.push(Word::read(Part { line, bytes: piece }))?;
     }
     Ok(found)
 }

@@ -1,5 +1,5 @@
 -- A word of six bytes is read byte by byte.
-use Rattle.std.proofs.Common.{Some, sym, ap, ◌∙◌, codes, refl, rules}
+use Rattle.std.proofs.Common.{sym, ap, codes, rules}
 use Rattle.std.proofs.lemmas.Slice.Eq.{text_from_reads}
 use Rattle.reading.specs.Words.{command_of}
 use Rattle.reading.proofs.word.Command.read.Goals as goal
