@@ -1,12 +1,12 @@
 -- The words of a line, read one by one.
-use Rattle.std.proofs.Common.{◌≡◌, ℕ, ◌<◌, List, [], ◌∷◌, ◌++◌, map, length, sym, refl, ap, ◌∙◌, append_assoc, append-nil, arith}
+use Rattle.std.proofs.Common.{◌≡◌, ℕ, ◌<◌, List, [], ◌∷◌, ◌++◌, map, length, refl, ap, ◌∙◌, append_assoc, arith}
 use Rattle.std.specs.List.{AllByRecursion}
 use Rattle.std.proofs.ByRecursion.{All-push}
 use Rattle.std.proofs.lemmas.List.{map_push}
 use Rattle.reading.specs.declared.word.Part.{Part}
 use Rattle.reading.specs.declared.word.Word.{Word}
-use Rattle.reading.specs.Pieces.{pieces, filled, words_of}
-use Rattle.reading.specs.Words.{Sense, names, orders, counts, nothing, sense_of, said_by, word_of, sense, part_of, text_of, line_of, Reads}
+use Rattle.reading.specs.Pieces.{filled, words_of}
+use Rattle.reading.specs.Words.{Sense, names, orders, counts, nothing, sense_of, said_by, word_of, sense, part_of, text_of, line_of}
 
 sense_said_by : (s : Sense) (p : Part) → sense (said_by s p) ≡ s
 sense_said_by (names k) p = refl
@@ -26,13 +26,6 @@ pub record Reading (n : ℕ) (ws : List Word) (ps : List (List ℕ)) (l : List �
   pub senses : map sense ws ++ map sense_of (filled ps) ≡ map sense_of (words_of l)
   pub line : AllByRecursion (λ w. line_of w ≡ n) ws
 
-pub reading_none : (n : ℕ) (ps : List (List ℕ)) (l : List ℕ) → ps ≡ pieces 32 l → Reading n [] ps l
-reading_none n ps l is = record { texts = ap filled is; senses = ap (λ qs. map sense_of (filled qs)) is; line = tt }
-
-filled_skip : (p : List ℕ) (ps : List (List ℕ)) → length p ≡ 0 → filled (p ∷ ps) ≡ filled ps
-filled_skip [] ps none = refl
-filled_skip (c ∷ p) ps none = absurd (omega arith)
-
 filled_more : (p : List ℕ) (ps : List (List ℕ)) → 0 < length p → filled (p ∷ ps) ≡ p ∷ filled ps
 filled_more [] ps some = absurd (omega arith)
 filled_more (c ∷ p) ps some = refl
@@ -41,22 +34,12 @@ filled_more (c ∷ p) ps some = refl
 moved : {X : Type 0} (f : Word → X) (ws : List Word) (w : Word) (more : List X) → map f (ws ++ w ∷ []) ++ more ≡ map f ws ++ (f w ∷ more)
 moved f ws w more = rw map_push (append_assoc (map f ws) (f w ∷ []) more)
 
-module _ (n : ℕ) (ws : List Word) (ps qs : List (List ℕ)) (l : List ℕ) (h : Reading n ws ps l) where
-  pub reading_skip : (p : List ℕ) → ps ≡ p ∷ qs → length p ≡ 0 → Reading n ws qs l
-  reading_skip p is none =
-      let e : filled qs ≡ filled ps = sym (filled_skip p qs none) ∙ ap filled (sym is) in
-      record { texts = rw e h.texts; senses = rw e h.senses; line = h.line }
-
-  pub reading_more : (p : Part) → ps ≡ p.bytes.now ∷ qs → 0 < length p.bytes.now → p.line ≡ n → (vs : List Word) → vs ≡ ws ++ word_of p ∷ [] → Reading n vs qs l
-  reading_more p is some at vs is_vs =
-      let e : filled ps ≡ p.bytes.now ∷ filled qs = ap filled is ∙ filled_more p.bytes.now qs some in
-      let s = sense_of p.bytes.now in
-      record {
-        texts = rw (is_vs, moved text_of ws (word_of p) (filled qs), ap (λ q. q.bytes.now) (part_said_by s p), ← e) h.texts;
-        senses = rw (is_vs, moved sense ws (word_of p) (map sense_of (filled qs)), sense_said_by s p, ← ap (map sense_of) e) h.senses;
-        line = rw is_vs (All-push (λ w. line_of w ≡ n) ws (word_of p) h.line (ap (λ q. q.line) (part_said_by s p) ∙ at));
-      }
-
-pub reading_done : (n : ℕ) (ws : List Word) (ps : List (List ℕ)) (l : List ℕ) → Reading n ws ps l → ps ≡ [] → Reads n ws l
-reading_done n ws [] l h none = record { texts = rw append-nil at h.texts; senses = rw append-nil at h.senses; line = h.line }
-reading_done n ws (p ∷ ps) l h none = cc
+pub reading_more : (n : ℕ) (ws : List Word) (ps qs : List (List ℕ)) (l : List ℕ) → Reading n ws ps l → (p : Part) → ps ≡ p.bytes.now ∷ qs → 0 < length p.bytes.now → p.line ≡ n → (vs : List Word) → vs ≡ ws ++ word_of p ∷ [] → Reading n vs qs l
+reading_more n ws ps qs l h p is some at vs is_vs =
+    let e : filled ps ≡ p.bytes.now ∷ filled qs = ap filled is ∙ filled_more p.bytes.now qs some in
+    let s = sense_of p.bytes.now in
+    record {
+      texts = rw (is_vs, moved text_of ws (word_of p) (filled qs), ap (λ q. q.bytes.now) (part_said_by s p), ← e) h.texts;
+      senses = rw (is_vs, moved sense ws (word_of p) (map sense_of (filled qs)), sense_said_by s p, ← ap (map sense_of) e) h.senses;
+      line = rw is_vs (All-push (λ w. line_of w ≡ n) ws (word_of p) h.line (ap (λ q. q.line) (part_said_by s p) ∙ at));
+    }
