@@ -6,5 +6,5 @@ use Rattle.reading.proofs.word.words.Goals as goal
 
 pub loop-piece-preserved : goal.loop-piece-preserved
 loop-piece-preserved c =
-    let more = pushed (c.read.result ∷ []) refl c.in_ok-push.was c.push.ensures.items in
-    reading_more _ _ _ _ _ c.loop-piece.invariant record { line = c.args.line; bytes = c.in-Some.piece } (search rules) (search rules) refl _ (rw c.read.ensures at more)
+    let more = pushed (c.from.result ∷ []) refl c.in_ok-push.was c.push.ensures.items in
+    reading_more _ _ _ _ _ c.loop-piece.invariant record { line = c.args.line; bytes = c.in-Some.piece } (search rules) (search rules) refl _ (rw c.from.ensures at more)
