@@ -1,9 +1,9 @@
 -- Just n numbers, read one by one.
-use Rattle.std.proofs.Common.{◌≡◌, ℕ, zero, suc, ◌+◌, ◌-◌, ◌<◌, List, [], ◌∷◌, ◌++◌, map, length, get_or, take, drop, Some, None, Option, sym, refl, ap, add-one, append_assoc, append-nil, arith}
+use Rattle.std.proofs.Common.{◌≡◌, ℕ, zero, suc, ◌+◌, ◌-◌, ◌<◌, List, [], ◌∷◌, ◌++◌, map, length, get_or, take, drop, Some, None, Option, sym, refl, ap, add-one, append_assoc, arith}
 use Rattle.std.specs.Option.{option_map}
 use Rattle.std.proofs.Math.ListN.{set}
 use Rattle.std.proofs.Math.Seq.{take-suc-set}
-use Rattle.std.proofs.lemmas.List.{drop_more, drop_all, take_all, length-map, length-set, get_or-map}
+use Rattle.std.proofs.lemmas.List.{drop_more, length-map, length-set, get_or-map}
 use Rattle.reading.specs.declared.word.Word.{Word}
 use Rattle.reading.specs.Words.{Sense, sense}
 use Rattle.reading.specs.Counts.{both, counted, numbers_of}
@@ -23,12 +23,6 @@ pub record Numbering (n k : ℕ) (found : List ℕ) (ss : List Sense) : Type 0 w
   pub wide : length found ≡ n
   pub is : numbers_of n ss ≡ option_map (λ ms. take k found ++ ms) (numbers_of (n - k) (drop k ss))
 
-pub numbering_none : (n : ℕ) (found : List ℕ) (ss : List Sense) → length found ≡ n → Numbering n 0 found ss
-numbering_none n found ss wide =
-    let same : (o : Option (List ℕ)) → o ≡ option_map (λ ms. ms) o = elim [ None ↦ refl | Some x ↦ refl ] in
-    let all : n - 0 ≡ n = omega arith in
-    record { wide = wide; is = rw all (same (numbers_of n ss)) }
-
 module _ (n k : ℕ) (found : List ℕ) (ws : List Word) (d : Word) (h : Numbering n k found (map sense ws)) (below : k < length ws) (long : length ws ≡ n) where
   next : numbers_of (n - k) (drop k (map sense ws)) ≡ both (λ m ms. m ∷ ms) (counted (sense (get_or ws k d))) (numbers_of (n - (k + 1)) (drop (k + 1) (map sense ws)))
   next =
@@ -42,8 +36,3 @@ module _ (n k : ℕ) (found : List ℕ) (ws : List Word) (d : Word) (h : Numberi
   numbering_more m some =
       let front : take (k + 1) (set found k m) ≡ take k found ++ m ∷ [] = rw add-one (take-suc-set found k m (omega arith)) in
       record { wide = rw length-set h.wide; is = rw (front, h.is, next, ← some) (onto (take k found) m _) }
-
-pub numbering_done : (n k : ℕ) (found : List ℕ) (ws : List Word) → Numbering n k found (map sense ws) → length ws ≡ k → length ws ≡ n → Some found ≡ numbers_of n (map sense ws)
-numbering_done n k found ws h end long =
-    let e : n - k ≡ 0 = omega arith in
-    rw (h.is, e, drop_all k (map sense ws) (omega (arith, length-map ws sense)), take_all k found (omega arith), append-nil) refl

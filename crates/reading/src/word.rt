@@ -5,7 +5,7 @@ ghost use Rattle.reading.specs.Counts.{counted, numbers_of};
 ghost use Rattle.reading.specs.Openings.{named};
 ghost use Rattle.reading.specs.Requests.{ordered};
 
-use crate::cut::split_first;
+use crate::cut::Pieces;
 use crate::number::number;
 use std::alloc::{AllocError, Global};
 
@@ -45,7 +45,7 @@ pub enum Word<'a> {
 }
 
 impl Kind {
-    // The kind that bytes name.
+    // The kind that bytes name. No `TryFrom`: other bytes are no error, and are read as a command.
     fn read(bytes: &[u8]) -> Option<Self>
         ensures { result ≡ kind_of bytes.now }
     {
@@ -57,7 +57,7 @@ impl Kind {
 }
 
 impl Command {
-    // The command that bytes name, in small letters.
+    // The command that bytes name, in small letters. Other bytes are no error, and are read as a number.
     fn read(bytes: &[u8]) -> Option<Self>
         ensures { result ≡ command_of bytes.now }
     {
@@ -75,11 +75,11 @@ impl Command {
     }
 }
 
-impl<'a> Word<'a> {
+impl<'a> From<Part<'a>> for Word<'a> {
+    ghost from_gives = { λ part word. word ≡ word_of part };
+
     // The word that a part of the script is.
-    fn read(part: Part<'a>) -> Self
-        ensures { result ≡ word_of part.entry }
-    {
+    fn from(part: Part<'a>) -> Self {
         if let Some(kind) = Kind::read(part.bytes) {
             return Word::Kind(kind, part);
         }
@@ -91,7 +91,9 @@ impl<'a> Word<'a> {
             None => Word::Other(part),
         }
     }
+}
 
+impl<'a> Word<'a> {
     // The kind that the word is.
     pub(crate) fn kind(&self) -> Option<Kind>
         ensures { result ≡ named (sense self.now) }
@@ -142,14 +144,11 @@ pub fn words<'a>(heap: Global, line: u32, bytes: &'a [u8]) -> Result<Vec<Word<'a
     ensures { IfOk result (λ v. Reads line v.items bytes.now) }
 {
     let mut found = Vec::new(heap);
-    let mut rest = bytes;
-    while !rest.is_empty() {
-        let (front, back) = split_first(rest, b' ');
-        rest = back;
-        if front.is_empty() {
+    for piece in Pieces::new(bytes, b' ') {
+        if piece.is_empty() {
             continue;
         }
-        found.push(Word::read(Part { line, bytes: front }))?;
+        found.push(Word::from(Part { line, bytes: piece }))?;
     }
     Ok(found)
 }
