@@ -1,5 +1,6 @@
 // The dual of a map: its switches in the other order.
-ghost use Rattle.std.specs.Prelude.{◌≡◌};
+ghost use Rattle.std.specs.Prelude.{◌≡◌, ◌-◌, ◌<◌, ◌≤◌, MatchResult};
+ghost use Rattle.gmap.specs.declared.refusal.Refusal.TheVariants.{NoSwitch};
 ghost use Rattle.gmap.specs.Layers.{dual};
 ghost use Rattle.layers.specs.Duals.{DualLaws};
 ghost use Rattle.std.proofs.Common.{rules};
@@ -21,6 +22,13 @@ impl<B: GMap> Dual<B> {
     {
         Dual { below }
     }
+
+    // The switch below that switch i stands for.
+    fn mirrored(&self, i: u16) -> Result<u16, Refusal>
+        ensures { let top = (B.Reads.meaning self.now.below).top in MatchResult result (λ j. (i ≤ top) × (j ≡ top - i)) (λ e. (e ≡ NoSwitch) × (top < i)) }
+    {
+        self.below.top().checked_sub(i).ok_or(Refusal::NoSwitch)
+    }
 }
 
 impl<B: GMap> Reads for Dual<B> {
@@ -39,11 +47,8 @@ impl<B: GMap> Reads for Dual<B> {
     }
 
     fn partner(&self, i: u16, t: u16) -> Result<u16, Refusal> {
-        let top = self.below.top();
-        if i > top {
-            return Err(Refusal::NoSwitch);
-        }
-        self.below.partner(top - i, t)
+        let j = self.mirrored(i)?;
+        self.below.partner(j, t)
     }
 }
 
@@ -63,18 +68,12 @@ impl<B: GMapMut> GMapMut for Dual<B> {
 
     #[tactic(auto, using(crate::proofs::DualActs::tie_dual))]
     fn tie(&mut self, i: u16, t: u16, u: u16) -> Result<(), Refusal> {
-        let top = self.below.top();
-        if i > top {
-            return Err(Refusal::NoSwitch);
-        }
-        self.below.tie(top - i, t, u)
+        let j = self.mirrored(i)?;
+        self.below.tie(j, t, u)
     }
 
     fn untie(&mut self, i: u16, t: u16) -> Result<(), Refusal> {
-        let top = self.below.top();
-        if i > top {
-            return Err(Refusal::NoSwitch);
-        }
-        self.below.untie(top - i, t)
+        let j = self.mirrored(i)?;
+        self.below.untie(j, t)
     }
 }

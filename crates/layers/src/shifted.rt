@@ -1,7 +1,8 @@
 // A map with its slots numbered from another one on.
-ghost use Rattle.std.specs.Prelude.{◌≡◌, ◌+◌, ◌-◌, ◌%◌, ◌<◌, ◌≤◌};
+ghost use Rattle.std.specs.Prelude.{◌≡◌, ◌+◌, ◌-◌, ◌%◌, ◌<◌, ◌≤◌, MatchResult};
 ghost use Rattle.gmap.specs.Layers.{shifted};
 ghost use Rattle.gmap.specs.Map.{Same};
+ghost use Rattle.gmap.specs.declared.refusal.Refusal.TheVariants.{NoSlot};
 ghost use Rattle.layers.specs.Shifts.{ShiftLaws};
 ghost use Rattle.layers.specs.ShiftLaw.{shifted_partners};
 
@@ -29,36 +30,44 @@ impl<B: GMap> Shifted<B> {
     }
 }
 
-// What is left of `first` behind the last round.
-fn reduced(size: u16, first: u16) -> u16
-    requires { 0 < size }
-    ensures { result ≡ first % size }
-{
-    if first < size { first } else { first % size }
-}
+impl<B: GMap> Shifted<B> {
+    // What is left of `first` behind the last round; nothing says that the map below is still the one that it was made over.
+    fn rest(&self) -> u16
+        requires { 0 < (B.Reads.meaning self.now.below).size }
+        ensures { result ≡ self.now.first % (B.Reads.meaning self.now.below).size }
+    {
+        let size = self.below.size();
+        if self.first < size {
+            self.first
+        } else {
+            self.first % size
+        }
+    }
 
-// The slot below that slot t stands for.
-#[tactic(auto, using(crate::specs::Shift::down_low, crate::specs::Shift::down_high))]
-fn down(size: u16, first: u16, t: u16) -> u16
-    requires slot { t < size }
-    requires few { size ≤ 4096 }
-    ensures { result ≡ (t + first) % size }
-{
-    let sum = t + reduced(size, first);
-    if sum < size { sum } else { sum - size }
-}
+    // The slot below that slot t stands for.
+    #[tactic(auto, using(crate::specs::Shift::down_low, crate::specs::Shift::down_high))]
+    fn down(&self, t: u16) -> Result<u16, Refusal>
+        ensures { let size = (B.Reads.meaning self.now.below).size in MatchResult result (λ d. (t < size) × (d ≡ (t + self.now.first) % size)) (λ e. (e ≡ NoSlot) × (size ≤ t)) }
+    {
+        let size = self.below.size();
+        if t >= size {
+            return Err(Refusal::NoSlot);
+        }
+        let sum = t + self.rest();
+        Ok(if sum < size { sum } else { sum - size })
+    }
 
-// The slot that stands for slot u below.
-fn up(size: u16, first: u16, u: u16) -> u16
-    requires slot { u < size }
-    requires few { size ≤ 4096 }
-    ensures { result ≡ (u + (size - first % size)) % size }
-{
-    let first = reduced(size, first);
-    if u < first {
-        u + (size - first)
-    } else {
-        u - first
+    // The slot that stands for slot u below.
+    fn up(&self, u: u16) -> u16
+        requires { u < (B.Reads.meaning self.now.below).size }
+        ensures { let size = (B.Reads.meaning self.now.below).size in result ≡ (u + (size - self.now.first % size)) % size }
+    {
+        let rest = self.rest();
+        if u < rest {
+            u + (self.below.size() - rest)
+        } else {
+            u - rest
+        }
     }
 }
 
@@ -74,20 +83,16 @@ impl<B: GMap> Reads for Shifted<B> {
     }
 
     fn is_live(&self, t: u16) -> bool {
-        let size = self.below.size();
-        t < size && self.below.is_live(down(size, self.first, t))
+        self.down(t).is_ok_and(|d| self.below.is_live(d))
     }
 
     fn partner(&self, i: u16, t: u16) -> Result<u16, Refusal> {
-        let size = self.below.size();
         if i > self.below.top() {
             return Err(Refusal::NoSwitch);
         }
-        if t >= size {
-            return Err(Refusal::NoSlot);
-        }
-        let u = self.below.partner(i, down(size, self.first, t))?;
-        Ok(up(size, self.first, u))
+        let d = self.down(t)?;
+        let u = self.below.partner(i, d)?;
+        Ok(self.up(u))
     }
 }
 
@@ -96,42 +101,31 @@ impl<B: GMap> GMap for Shifted<B> {
 }
 
 impl<B: GMapMut> GMapMut for Shifted<B> {
+    #[tactic(auto, using(crate::proofs::ShiftActs::open_shifted))]
     fn open_slot(&mut self, t: u16) -> Result<(), Refusal> {
-        let size = self.below.size();
-        if t >= size {
-            return Err(Refusal::NoSlot);
-        }
-        self.below.open_slot(down(size, self.first, t))
+        let d = self.down(t)?;
+        self.below.open_slot(d)
     }
 
     fn close_slot(&mut self, t: u16) -> Result<(), Refusal> {
-        let size = self.below.size();
-        if t >= size {
-            return Err(Refusal::NoSlot);
-        }
-        self.below.close_slot(down(size, self.first, t))
+        let d = self.down(t)?;
+        self.below.close_slot(d)
     }
 
     fn tie(&mut self, i: u16, t: u16, u: u16) -> Result<(), Refusal> {
-        let size = self.below.size();
         if i > self.below.top() {
             return Err(Refusal::NoSwitch);
         }
-        if t >= size || u >= size {
-            return Err(Refusal::NoSlot);
-        }
-        self.below
-            .tie(i, down(size, self.first, t), down(size, self.first, u))
+        let d = self.down(t)?;
+        let e = self.down(u)?;
+        self.below.tie(i, d, e)
     }
 
     fn untie(&mut self, i: u16, t: u16) -> Result<(), Refusal> {
-        let size = self.below.size();
         if i > self.below.top() {
             return Err(Refusal::NoSwitch);
         }
-        if t >= size {
-            return Err(Refusal::NoSlot);
-        }
-        self.below.untie(i, down(size, self.first, t))
+        let d = self.down(t)?;
+        self.below.untie(i, d)
     }
 }

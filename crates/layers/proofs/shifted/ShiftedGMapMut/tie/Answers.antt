@@ -1,10 +1,6 @@
--- The act below, at the slot that t stands for.
+-- The act below, at the slots that t and u stand for.
 use Rattle.layers.proofs.ShiftActs.{tie_shifted}
 use Rattle.layers.proofs.shifted.ShiftedGMapMut.tie.Goals as goal
 
 pub returns : goal.returns
-returns g c =
-    let m = g.B.Reads.meaning c.args.self.now.below in
-    let m' = g.B.Reads.meaning c.tie.new.self in
-    let law = g.met.B.GMap.partners c.args.self.now.below in
-    tie_shifted c.args.self.now.first m law m' c.size-size.result c.tie.result c.size-size.ensures c.args.i c.args.t c.args.u c.down.result c.down-2.result c.if-t-size.false c.if-u-size.false c.down.ensures c.down-2.ensures c.tie.ensures
+returns g c = tie_shifted _ _ (g.met.B.GMap.partners c.args.self.now.below) _ c.tie.result _ _ _ _ _ c.in_ok-d.ensures.0 c.in_ok-e.ensures.0 c.in_ok-d.ensures.1 c.in_ok-e.ensures.1 c.tie.ensures
