@@ -16,11 +16,7 @@ loop-rest-preserved g c =
     let some = some_bytes c.loop-rest.rest.now c.loop-rest-test.ensures in
     let split = c.split_first.ensures in
     let request = read_from request_of c.in_ok-found.ensures c.as_slice.ensures.value refl in
-    let scratch_long = c.as_mut_slice.ensures.len in
-    let list_long = c.as_mut_slice-in-loop-rest.ensures.len in
-    let list = c.as_slice-in-loop-rest.ensures.value ∙ with_items_is c.loop-rest.list c.answer-reply.new.list (c.answer-reply.auto.list ∙ list_long) in
-    playing_more _ _ _ _ _ _ _ _ _ _ _ _ _ _ _ _ _ c.loop-rest.invariant some split.front split.back request scratch_long list_long c.answer-reply.ensures
-    (c.in_ok-push_line.ensures ∙ ap (λ x. vec_items c.loop-rest.out ++ printed c.loop-rest.line (answer_of c.answer-reply.result x)) list)
+    playing_more _ _ _ _ _ _ _ _ _ _ _ _ _ _ _ _ _ c.loop-rest.invariant some split.front split.back request c.as_mut_slice.ensures.len c.as_mut_slice-in-loop-rest.ensures.len c.answer-answer.ensures c.in_ok-push_line.ensures
 
 pub returns : goal.returns
 returns g c = playing_done _ _ _ _ _ _ _ _ _ (g.met.B.GMap.partners c.args.board.now) c.requires.fresh c.loop-rest.invariant (search rules)
