@@ -2,4 +2,4 @@
 pub mod Cuts
 mod Digits
 mod Lines
-mod Firsts
+mod Numbers

@@ -1,10 +1,8 @@
 -- Words that are just so many numbers.
---   counted   the number that a word says
---   one_of    just one number
---   two_of    just two numbers
---   three_of  just three numbers
---   both      what two values make, if both are there
-use Rattle.std.specs.Prelude.{ℕ, List, [], ◌∷◌, Some, None, Option}
+--   counted     the number that a word says
+--   both        what two values make, if both are there
+--   numbers_of  just n numbers
+use Rattle.std.specs.Prelude.{ℕ, zero, suc, List, [], ◌∷◌, Some, None, Option}
 use Rattle.reading.specs.Words.{Sense, names, orders, counts, nothing}
 
 abbrev pub both : {A B C : Type 0} → (A → B → C) → Option A → Option B → Option C
@@ -18,15 +16,8 @@ counted (orders c) = None
 counted (counts n) = Some n
 counted nothing = None
 
-abbrev pub one_of : List Sense → Option ℕ
-one_of [] = None
-one_of (s ∷ []) = counted s
-one_of (s ∷ t ∷ ss) = None
-
-abbrev pub two_of : List Sense → Option (ℕ × ℕ)
-two_of [] = None
-two_of (s ∷ ss) = both (λ m n. (m, n)) (counted s) (one_of ss)
-
-abbrev pub three_of : List Sense → Option (ℕ × ℕ × ℕ)
-three_of [] = None
-three_of (s ∷ ss) = both (λ m p. (m, p.0, p.1)) (counted s) (two_of ss)
+abbrev pub numbers_of : ℕ → List Sense → Option (List ℕ)
+numbers_of zero [] = Some []
+numbers_of zero (s ∷ ss) = None
+numbers_of (suc n) [] = None
+numbers_of (suc n) (s ∷ ss) = both (λ m ms. m ∷ ms) (counted s) (numbers_of n ss)

@@ -3,13 +3,13 @@
 --   TooLarge        its numbers are out of bounds
 --   opening_checks  why a first line is refused
 --   opening_of      the opening that words are, or its refusal
-use Rattle.std.specs.Prelude.{◌≡◌, ℕ, ◌<◌, cond, ◌&&◌, ◌⊎◌, List, [], ◌∷◌, Some, None, Ok, Err, Option, Result, nat_le}
+use Rattle.std.specs.Prelude.{◌≡◌, ℕ, ◌<◌, cond, ◌&&◌, ◌⊎◌, List, [], ◌∷◌, Some, None, Ok, Err, Option, Result, nat_le, slice_index}
 use Rattle.gmap.specs.declared.refusal.Refusal.{Refusal}
 use Rattle.gmap.specs.declared.refusal.Refusal.TheVariants.{Malformed, Oversize}
 use Rattle.reading.specs.declared.word.Kind.{Kind}
 use Rattle.reading.specs.declared.opening.Opening.{Opening}
 use Rattle.reading.specs.Words.{Sense, names, orders, counts, nothing}
-use Rattle.reading.specs.Counts.{both, two_of}
+use Rattle.reading.specs.Counts.{both, numbers_of}
 
 abbrev pub opens : Opening → List Sense
 opens o = names o.kind ∷ counts o.top ∷ counts o.size ∷ []
@@ -31,7 +31,7 @@ named nothing = None
 -- just a kind and two numbers
 abbrev pub opened_of : List Sense → Option Opening
 opened_of [] = None
-opened_of (s ∷ ss) = both (λ k p. record { kind = k; top = p.0; size = p.1 }) (named s) (two_of ss)
+opened_of (s ∷ ss) = both (λ k n. record { kind = k; top = slice_index n 0; size = slice_index n 1 }) (named s) (numbers_of 2 ss)
 
 -- the opening, held to its bounds
 abbrev pub bounded : Option Opening → Result Opening Refusal

@@ -2,7 +2,7 @@
 --   asks            the words by which a request is asked for
 --   request_checks  why a line is refused
 --   request_of      the request that words ask for, or its refusal
-use Rattle.std.specs.Prelude.{◌≡◌, ℕ, List, [], ◌∷◌, Some, None, Option, Result}
+use Rattle.std.specs.Prelude.{◌≡◌, ℕ, List, [], ◌∷◌, Some, None, Option, Result, slice_index}
 use Rattle.std.specs.Option.{option_map, ok_or}
 use Rattle.gmap.specs.declared.refusal.Refusal.{Refusal}
 use Rattle.gmap.specs.declared.refusal.Refusal.TheVariants.{Malformed}
@@ -11,7 +11,7 @@ use Rattle.reading.specs.declared.word.Command.TheVariants as command
 use Rattle.reading.specs.declared.request.Request.{Request}
 use Rattle.reading.specs.declared.request.Request.TheVariants as request
 use Rattle.reading.specs.Words.{Sense, names, orders, counts, nothing}
-use Rattle.reading.specs.Counts.{one_of, two_of, three_of}
+use Rattle.reading.specs.Counts.{numbers_of}
 
 abbrev pub asks : Request → List Sense
 asks (request.Make t) = orders command.Make ∷ counts t ∷ []
@@ -33,12 +33,12 @@ alone_of q (s ∷ ss) = None
 
 -- a command with just its numbers
 abbrev pub filled_of : Command → List Sense → Option Request
-filled_of command.Make ss = option_map (λ t. request.Make t) (one_of ss)
-filled_of command.Unmake ss = option_map (λ t. request.Unmake t) (one_of ss)
-filled_of command.Join ss = option_map (λ n. request.Join n.0 n.1 n.2) (three_of ss)
-filled_of command.Part ss = option_map (λ n. request.Part n.0 n.1) (two_of ss)
-filled_of command.Orbit ss = option_map (λ n. request.Orbit n.0 n.1) (two_of ss)
-filled_of command.Cells ss = option_map (λ i. request.Cells i) (one_of ss)
+filled_of command.Make ss = option_map (λ n. request.Make (slice_index n 0)) (numbers_of 1 ss)
+filled_of command.Unmake ss = option_map (λ n. request.Unmake (slice_index n 0)) (numbers_of 1 ss)
+filled_of command.Join ss = option_map (λ n. request.Join (slice_index n 0) (slice_index n 1) (slice_index n 2)) (numbers_of 3 ss)
+filled_of command.Part ss = option_map (λ n. request.Part (slice_index n 0) (slice_index n 1)) (numbers_of 2 ss)
+filled_of command.Orbit ss = option_map (λ n. request.Orbit (slice_index n 0) (slice_index n 1)) (numbers_of 2 ss)
+filled_of command.Cells ss = option_map (λ n. request.Cells (slice_index n 0)) (numbers_of 1 ss)
 filled_of command.Lawful ss = alone_of request.Lawful ss
 filled_of command.Whole ss = alone_of request.Whole ss
 

@@ -4,6 +4,7 @@ ghost use Rattle.reading.specs.Number.{digit_of, number_of};
 
 // 1 to 5 digits that write at most 65,535 are a number.
 // The length is tried first, so that the recursion is at most five deep.
+#[tactic(auto, using(crate::proofs::Digits::number_one, crate::proofs::Digits::number_step))]
 pub fn number(word: &[u8]) -> Option<u16>
     ensures { result ≡ number_of word.now }
 {

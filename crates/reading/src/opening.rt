@@ -2,9 +2,9 @@
 ghost use Rattle.std.specs.Prelude.{◌≡◌, map};
 ghost use Rattle.gmap.specs.Outcome.{Outcome};
 ghost use Rattle.reading.specs.Words.{sense};
-ghost use Rattle.reading.specs.Openings.{opens, opening_checks, named, opened_of, opening_of};
+ghost use Rattle.reading.specs.Openings.{opens, opening_checks, opened_of, opening_of};
 
-use crate::word::{Kind, Word, count};
+use crate::word::{Kind, Word, numbers};
 use gmap::refusal::Refusal;
 
 // The highest top of a storage that a script opens.
@@ -14,35 +14,23 @@ const TOP: u16 = 7;
 const SIZE: u16 = 1024;
 
 // A kind of storage, with its highest switch and how many slots it has.
-#[derive(Clone, Copy)]
+#[derive(Clone, Copy, PartialEq, Eq, Debug)]
 pub struct Opening {
     pub kind: Kind,
     pub top: u16,
     pub size: u16,
 }
 
-// The kind that a word is.
-fn name(word: &Word) -> Option<Kind>
-    ensures { result ≡ named (sense word.now) }
-{
-    match word {
-        Word::Kind(kind, _) => Some(*kind),
-        _ => None,
-    }
-}
-
 // Just a kind and two numbers.
 fn open(words: &[Word]) -> Option<Opening>
     ensures { result ≡ opened_of (map sense words.now) }
 {
-    let [kind, top, size] = words else {
+    let [first, rest @ ..] = words else {
         return None;
     };
-    Some(Opening {
-        kind: name(kind)?,
-        top: count(top)?,
-        size: count(size)?,
-    })
+    let kind = first.kind()?;
+    let [top, size] = numbers::<2>(rest)?;
+    Some(Opening { kind, top, size })
 }
 
 // What the words of the first line open. Their form is tried before the bounds.

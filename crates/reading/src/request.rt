@@ -2,14 +2,13 @@
 ghost use Rattle.std.specs.Prelude.{◌≡◌, map, MatchOption, ◌≢◌};
 ghost use Rattle.gmap.specs.Outcome.{Outcome};
 ghost use Rattle.reading.specs.Words.{sense};
-ghost use Rattle.reading.specs.Counts.{one_of, two_of, three_of};
-ghost use Rattle.reading.specs.Requests.{asks, request_checks, filled_of, ordered, asked_of, request_of};
+ghost use Rattle.reading.specs.Requests.{asks, request_checks, filled_of, asked_of, request_of};
 
-use crate::word::{Command, Word, count};
+use crate::word::{Command, Word, numbers};
 use gmap::refusal::Refusal;
 
 // A command with its numbers, which reach the library as the script has them.
-#[derive(Clone, Copy)]
+#[derive(Clone, Copy, PartialEq, Eq, Debug)]
 pub enum Request {
     Make(u16),
     Unmake(u16),
@@ -21,68 +20,35 @@ pub enum Request {
     Whole,
 }
 
-// Just one number.
-fn one(words: &[Word]) -> Option<u16>
-    ensures { result ≡ one_of (map sense words.now) }
-{
-    match words {
-        [only] => count(only),
-        _ => None,
-    }
-}
-
-// Just two numbers.
-fn two(words: &[Word]) -> Option<(u16, u16)>
-    ensures { result ≡ two_of (map sense words.now) }
-{
-    let [first, rest @ ..] = words else {
-        return None;
-    };
-    Some((count(first)?, one(rest)?))
-}
-
-// Just three numbers.
-fn three(words: &[Word]) -> Option<(u16, u16, u16)>
-    ensures { result ≡ three_of (map sense words.now) }
-{
-    let [first, rest @ ..] = words else {
-        return None;
-    };
-    let i = count(first)?;
-    let (t, u) = two(rest)?;
-    Some((i, t, u))
-}
-
-// The command that a word is.
-fn order(word: &Word) -> Option<Command>
-    ensures { result ≡ ordered (sense word.now) }
-{
-    match word {
-        Word::Command(command, _) => Some(*command),
-        _ => None,
-    }
-}
-
 // A command with just its numbers.
 fn fill(command: Command, words: &[Word]) -> Option<Request>
     ensures { result ≡ filled_of command (map sense words.now) }
 {
     match command {
-        Command::Make => Some(Request::Make(one(words)?)),
-        Command::Unmake => Some(Request::Unmake(one(words)?)),
+        Command::Make => {
+            let [t] = numbers::<1>(words)?;
+            Some(Request::Make(t))
+        }
+        Command::Unmake => {
+            let [t] = numbers::<1>(words)?;
+            Some(Request::Unmake(t))
+        }
         Command::Join => {
-            let (i, t, u) = three(words)?;
+            let [i, t, u] = numbers::<3>(words)?;
             Some(Request::Join(i, t, u))
         }
         Command::Part => {
-            let (i, t) = two(words)?;
+            let [i, t] = numbers::<2>(words)?;
             Some(Request::Part(i, t))
         }
         Command::Orbit => {
-            let (mask, t) = two(words)?;
+            let [mask, t] = numbers::<2>(words)?;
             Some(Request::Orbit(mask, t))
         }
-        Command::Cells => Some(Request::Cells(one(words)?)),
+        Command::Cells => {
+            let [i] = numbers::<1>(words)?;
+            Some(Request::Cells(i))
+        }
         Command::Lawful => words.is_empty().then_some(Request::Lawful),
         Command::Whole => words.is_empty().then_some(Request::Whole),
     }
@@ -96,7 +62,7 @@ fn ask(words: &[Word]) -> Option<Request>
     let [first, rest @ ..] = words else {
         return None;
     };
-    fill(order(first)?, rest)
+    fill(first.command()?, rest)
 }
 
 // What the words of a line ask for.

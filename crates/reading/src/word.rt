@@ -1,21 +1,22 @@
 // The words of a line, sorted by what they say. A word borrows its bytes from the script.
-ghost use Rattle.std.specs.Prelude.{◌≡◌, IfOk};
-ghost use Rattle.std.specs.Str.{bytes_eq};
+ghost use Rattle.std.specs.Prelude.{◌≡◌, map, IfOk};
 ghost use Rattle.reading.specs.Words.{kind_of, command_of, word_of, sense, Reads};
-ghost use Rattle.reading.specs.Counts.{counted};
+ghost use Rattle.reading.specs.Counts.{counted, numbers_of};
+ghost use Rattle.reading.specs.Openings.{named};
+ghost use Rattle.reading.specs.Requests.{ordered};
 
-use crate::cut::split_first;
+use crate::cut::Pieces;
 use crate::number::number;
 use std::alloc::{AllocError, Global};
 
 // A kind of storage.
-#[derive(Clone, Copy)]
+#[derive(Clone, Copy, PartialEq, Eq, Debug)]
 pub enum Kind {
     Rows,
 }
 
 // What a line can ask for, by its first word.
-#[derive(Clone, Copy)]
+#[derive(Clone, Copy, PartialEq, Eq, Debug)]
 pub enum Command {
     Make,
     Unmake,
@@ -28,14 +29,14 @@ pub enum Command {
 }
 
 // Bytes of a script, with the number of their line.
-#[derive(Clone, Copy)]
+#[derive(Clone, Copy, PartialEq, Eq, Debug)]
 pub struct Part<'a> {
     pub line: u32,
     pub bytes: &'a [u8],
 }
 
 // A word, with the part of the script that it is.
-#[derive(Clone, Copy)]
+#[derive(Clone, Copy, PartialEq, Eq, Debug)]
 pub enum Word<'a> {
     Kind(Kind, Part<'a>),
     Command(Command, Part<'a>),
@@ -43,73 +44,97 @@ pub enum Word<'a> {
     Other(Part<'a>),
 }
 
-// Whether two runs of bytes are the same.
-fn same(bytes: &[u8], name: &[u8]) -> bool
-    ensures { result ≡ bytes_eq bytes.now name.now }
-{
-    bytes == name
-}
-
-// The kind that bytes name.
-fn find_kind(bytes: &[u8]) -> Option<Kind>
-    ensures { result ≡ kind_of bytes.now }
-{
-    if same(bytes, b"rows") {
-        Some(Kind::Rows)
-    } else {
-        None
+impl Kind {
+    // The kind that bytes name.
+    fn read(bytes: &[u8]) -> Option<Self>
+        ensures { result ≡ kind_of bytes.now }
+    {
+        match bytes {
+            b"rows" => Some(Kind::Rows),
+            _ => None,
+        }
     }
 }
 
-// The command that bytes name, in small letters.
-fn find_command(bytes: &[u8]) -> Option<Command>
-    ensures { result ≡ command_of bytes.now }
-{
-    if same(bytes, b"make") {
-        Some(Command::Make)
-    } else if same(bytes, b"unmake") {
-        Some(Command::Unmake)
-    } else if same(bytes, b"join") {
-        Some(Command::Join)
-    } else if same(bytes, b"part") {
-        Some(Command::Part)
-    } else if same(bytes, b"orbit") {
-        Some(Command::Orbit)
-    } else if same(bytes, b"cells") {
-        Some(Command::Cells)
-    } else if same(bytes, b"lawful") {
-        Some(Command::Lawful)
-    } else if same(bytes, b"whole") {
-        Some(Command::Whole)
-    } else {
-        None
+impl Command {
+    // The command that bytes name, in small letters.
+    fn read(bytes: &[u8]) -> Option<Self>
+        ensures { result ≡ command_of bytes.now }
+    {
+        match bytes {
+            b"make" => Some(Command::Make),
+            b"unmake" => Some(Command::Unmake),
+            b"join" => Some(Command::Join),
+            b"part" => Some(Command::Part),
+            b"orbit" => Some(Command::Orbit),
+            b"cells" => Some(Command::Cells),
+            b"lawful" => Some(Command::Lawful),
+            b"whole" => Some(Command::Whole),
+            _ => None,
+        }
     }
 }
 
-// The word that a part of the script is.
-fn read_word<'a>(part: Part<'a>) -> Word<'a>
-    ensures { result ≡ word_of part.entry }
-{
-    if let Some(kind) = find_kind(part.bytes) {
-        return Word::Kind(kind, part);
+impl<'a> Word<'a> {
+    // The word that a part of the script is.
+    fn read(part: Part<'a>) -> Self
+        ensures { result ≡ word_of part.entry }
+    {
+        if let Some(kind) = Kind::read(part.bytes) {
+            return Word::Kind(kind, part);
+        }
+        if let Some(command) = Command::read(part.bytes) {
+            return Word::Command(command, part);
+        }
+        match number(part.bytes) {
+            Some(value) => Word::Number(value, part),
+            None => Word::Other(part),
+        }
     }
-    if let Some(command) = find_command(part.bytes) {
-        return Word::Command(command, part);
+
+    // The kind that the word is.
+    pub(crate) fn kind(&self) -> Option<Kind>
+        ensures { result ≡ named (sense self.now) }
+    {
+        match self {
+            Word::Kind(kind, _) => Some(*kind),
+            _ => None,
+        }
     }
-    match number(part.bytes) {
-        Some(value) => Word::Number(value, part),
-        None => Word::Other(part),
+
+    // The command that the word is.
+    pub(crate) fn command(&self) -> Option<Command>
+        ensures { result ≡ ordered (sense self.now) }
+    {
+        match self {
+            Word::Command(command, _) => Some(*command),
+            _ => None,
+        }
+    }
+
+    // The number that the word is.
+    pub fn number(&self) -> Option<u16>
+        ensures { result ≡ counted (sense self.now) }
+    {
+        match self {
+            Word::Number(value, _) => Some(*value),
+            _ => None,
+        }
     }
 }
 
-// The number that a word is.
-pub fn count(word: &Word) -> Option<u16>
-    ensures { result ≡ counted (sense word.now) }
+// Just N numbers.
+pub(crate) fn numbers<const N: usize>(words: &[Word]) -> Option<[u16; N]>
+    ensures { result ≡ numbers_of N (map sense words.now) }
 {
-    match word {
-        Word::Number(value, _) => Some(*value),
-        _ => None,
+    if words.len() != N {
+        return None;
     }
+    let mut found = [0; N];
+    for (k, word) in words.iter().enumerate() {
+        found[k] = word.number()?;
+    }
+    Some(found)
 }
 
 // The words of a line, in order.
@@ -117,14 +142,11 @@ pub fn words<'a>(heap: Global, line: u32, bytes: &'a [u8]) -> Result<Vec<Word<'a
     ensures { IfOk result (λ v. Reads line v.items bytes.now) }
 {
     let mut found = Vec::new(heap);
-    let mut rest = bytes;
-    while !rest.is_empty() {
-        let (front, back) = split_first(rest, b' ');
-        rest = back;
-        if front.is_empty() {
+    for piece in Pieces::new(bytes, b' ') {
+        if piece.is_empty() {
             continue;
         }
-        found.push(read_word(Part { line, bytes: front }))?;
+        found.push(Word::read(Part { line, bytes: piece }))?;
     }
     Ok(found)
 }
