@@ -9,7 +9,7 @@ use crate::reply::Reply;
 use crate::serve::Desk;
 use gmap::map::{GMapMut, Reads};
 use gmap::refusal::Refusal;
-use reading::cut::split_first;
+use reading::cut::{Pieces, split_first};
 use reading::opening::{Opening, read_opening};
 use reading::word::{Kind, words};
 use rows::lay::lay_out;
@@ -32,11 +32,7 @@ fn play<B: GMapMut>(
     let size = board.size() as usize;
     let mut scratch = vec![in heap; 0; 4 * size]?;
     let mut list = vec![in heap; 0; size]?;
-    let mut rest = lines;
-    let mut line = 2;
-    while !rest.is_empty() {
-        let (bytes, back) = split_first(rest, b'\n');
-        rest = back;
+    for (line, bytes) in (2..).zip(Pieces::new(lines, b'\n')) {
         let found = words(heap, line, bytes)?;
         let desk = Desk {
             scratch: scratch.as_mut_slice(),
@@ -44,7 +40,6 @@ fn play<B: GMapMut>(
         };
         let answer = desk.answer(board, found.as_slice());
         push_line(heap, out, line, answer)?;
-        line += 1;
     }
     Ok(())
 }
