@@ -71,11 +71,7 @@ impl fmt::Display for Listing<'_> {
 }
 
 // The orbit of tuple 4.
-fn list_orbit<'a, C: GMap>(
-    map: &C,
-    mask: u8,
-    list: &'a mut [u16],
-) -> Result<Listing<'a>, Refusal> {
+fn list_orbit<'a, C: GMap>(map: &C, mask: u8, list: &'a mut [u16]) -> Result<Listing<'a>, Refusal> {
     let count = orbit(map, mask, 4, &mut [0; 64], list)?;
     let entries = &list[..count as usize];
     Ok(Listing { count, entries })
