@@ -1,4 +1,5 @@
 // Boards that no script can make: slips filled to the last record, a board tied by the acts alone, and a contraction.
+use crate::report::report;
 use calls::replay;
 use gmap::map::{GMap, GMapMut, Reads};
 use gmap::refusal::Refusal;
@@ -34,60 +35,42 @@ fn open_below<B: GMapMut>(board: &mut B, end: u16) -> Result<(), Refusal> {
     Ok(())
 }
 
-// Ties neighbours in a switch.
-fn tie_neighbours<B: GMapMut>(board: &mut B, i: u16, pairs: u16) -> Result<(), Refusal> {
-    for k in 0..pairs {
-        board.tie(
-            i,
-            k.saturating_mul(2),
-            k.saturating_mul(2).saturating_add(1),
-        )?;
+// Ties the slots of each of eight pairs in a switch.
+fn tie_pairs<B: GMapMut>(board: &mut B, i: u16) -> Result<(), Refusal> {
+    for pair in 0..8 {
+        board.tie(i, 2 * pair, 2 * pair + 1)?;
     }
     Ok(())
 }
 
 // Fills a board of 16 slots and top 3.
-fn fill<B: GMapMut>(board: &mut B) -> Result<(), Refusal> {
+fn fill<B: GMapMut>(board: &mut B) -> Result<&'static str, Refusal> {
     open_below(board, 16)?;
     for i in 0..4 {
-        tie_neighbours(board, i, 8)?;
+        tie_pairs(board, i)?;
+    }
+    Ok("done")
+}
+
+// Unties slot t in the four switches.
+fn untie_from<B: GMapMut>(board: &mut B, t: u16) -> Result<(), Refusal> {
+    for i in 0..4 {
+        board.untie(i, t)?;
     }
     Ok(())
 }
 
-// Unties the neighbours again, and closes their slots.
-fn drain<B: GMapMut>(board: &mut B) -> Result<(), Refusal> {
-    for k in 0..8 {
-        for i in 0..4 {
-            board.untie(i, 2 * k)?;
-        }
-        board.close_slot(2 * k)?;
-        board.close_slot(2 * k + 1)?;
+// Unties the pairs again, and closes their slots.
+fn drain<B: GMapMut>(board: &mut B) -> Result<&'static str, Refusal> {
+    for pair in 0..8 {
+        untie_from(board, 2 * pair)?;
+        board.close_slot(2 * pair)?;
+        board.close_slot(2 * pair + 1)?;
     }
-    Ok(())
+    Ok("done")
 }
 
-// Prints how a step went.
-fn report(rt: HostRuntime, step: &str, outcome: Result<(), Refusal>) -> io::Result<()> {
-    match outcome {
-        Ok(()) => println!(rt; "  {step}: done"),
-        Err(refusal) => {
-            let code = refusal.code();
-            println!(rt; "  {step}: refused {code}")
-        }
-    }
-}
-
-// Fills and empties a board through a pile.
-fn fill_through<B: GMapMut + Drop>(rt: HostRuntime, board: B) -> io::Result<()> {
-    let mut pile = Dual::over(Shifted::over(board, 7));
-    let filled = fill(&mut pile);
-    report(rt, "filled through a pile", filled)?;
-    let drained = drain(&mut pile);
-    report(rt, "emptied through a pile", drained)
-}
-
-// Fills slips to the last record and empties them again.
+// Fills slips to the last record and empties them again, and so through a pile.
 pub fn fill_slips(rt: HostRuntime) -> io::Result<()> {
     let mut memory = [Record::Unused; 48];
     let mut board = slips::lay::lay_out(&mut memory, 3, 16);
@@ -95,11 +78,12 @@ pub fn fill_slips(rt: HostRuntime) -> io::Result<()> {
     let used = board.used();
     println!(rt; "slips for 16 slots and top 3: {used} of 48 records used")?;
     report(rt, "filled", filled)?;
-    let drained = drain(&mut board);
-    report(rt, "emptied", drained)?;
+    report(rt, "emptied", drain(&mut board))?;
     let used = board.used();
     println!(rt; "  {used} records used")?;
-    fill_through(rt, board)
+    let mut pile = Dual::over(Shifted::over(board, 7));
+    report(rt, "filled through a pile", fill(&mut pile))?;
+    report(rt, "emptied through a pile", drain(&mut pile))
 }
 
 // Prints the partners of every tuple in a switch.
@@ -114,38 +98,35 @@ fn show<C: GMap>(rt: HostRuntime, map: &C, i: u16) -> io::Result<()> {
 }
 
 // Ties that no join makes: switches 0 and 2 do not commute.
-fn tie_unlawfully<B: GMapMut>(board: &mut B) -> Result<(), Refusal> {
+fn tie_unlawfully<B: GMapMut>(board: &mut B) -> Result<&'static str, Refusal> {
     open_below(board, 6)?;
     board.tie(0, 0, 1)?;
     board.tie(2, 1, 2)?;
     board.tie(1, 2, 3)?;
     board.tie(1, 1, 5)?;
-    board.tie(1, 0, 4)
+    board.tie(1, 0, 4)?;
+    Ok("done")
 }
 
-// Removes the edge of tuple 1: two steps lead from 3 to 5, and from 4 the walk turns back.
-fn remove_from<B: GMapMut + Drop>(rt: HostRuntime, mut board: B) -> io::Result<()> {
-    let mut scratch = [0; 24];
-    let tied = tie_unlawfully(&mut board);
-    report(rt, "tied", tied)?;
+// Removes the edge of tuple 1 from a board that is not lawful: two steps lead from 3 to 5, and from 4 the walk turns back.
+pub fn remove_unlawfully(rt: HostRuntime) -> io::Result<()> {
+    let mut memory = [0; 18];
+    let mut board = rows::lay::lay_out(&mut memory, 2, 6);
+    println!(rt; "a removal on a board that is not lawful")?;
+    report(rt, "tied", tie_unlawfully(&mut board))?;
     let law = lawful(&board);
     println!(rt; "  lawful {law}")?;
-    let taken = remove(&mut board, 1, 1, &mut scratch).unwrap_or(0);
+    let taken = remove(&mut board, 1, 1, &mut [0; 24]).unwrap_or(0);
     println!(rt; "  removed {taken}")?;
     show(rt, &board, 1)
 }
 
-// A removal on a board that is not lawful.
-pub fn remove_unlawfully(rt: HostRuntime) -> io::Result<()> {
-    let mut memory = [0; 18];
-    println!(rt; "a removal on a board that is not lawful")?;
-    remove_from(rt, rows::lay::lay_out(&mut memory, 2, 6))
-}
-
 // Contracts an edge of a triangle: a removal on the dual.
-fn contract_edge<B: GMapMut + Drop>(rt: HostRuntime, mut board: B) -> io::Result<()> {
-    let mut scratch = [0; 24];
-    let mut list = [0; 6];
+pub fn contract(rt: HostRuntime) -> io::Result<()> {
+    let mut memory = [0; 18];
+    let (mut scratch, mut list) = ([0; 24], [0; 6]);
+    let mut board = rows::lay::lay_out(&mut memory, 2, 6);
+    println!(rt; "an edge of a triangle contracted")?;
     replay(&mut board, &TRIANGLE, &mut scratch);
     let mut dual = Dual::over(board);
     let taken = remove(&mut dual, 1, 0, &mut scratch).unwrap_or(0);
@@ -154,11 +135,4 @@ fn contract_edge<B: GMapMut + Drop>(rt: HostRuntime, mut board: B) -> io::Result
     let edges = cells(&dual, 1, &mut scratch, &mut list).unwrap_or(0);
     let vertices = cells(&dual, 2, &mut scratch, &mut list).unwrap_or(0);
     println!(rt; "  {vertices} vertices, {edges} edges")
-}
-
-// A contraction on rows.
-pub fn contract(rt: HostRuntime) -> io::Result<()> {
-    let mut memory = [0; 18];
-    println!(rt; "an edge of a triangle contracted")?;
-    contract_edge(rt, rows::lay::lay_out(&mut memory, 2, 6))
 }

@@ -3,6 +3,7 @@
 #![tactic(auto)]
 
 mod boards;
+mod report;
 mod roll;
 
 use std::io;

@@ -1,4 +1,5 @@
 // Two coins as one roll, through piles of layers.
+use crate::report::report;
 use calls::replay;
 use gmap::map::{GMap, GMapMut, Reads};
 use gmap::refusal::Refusal;
@@ -8,7 +9,7 @@ use layers::shifted::Shifted;
 use protection::call::Call;
 use questions::{cells, lawful, orbit, whole};
 use slips::record::Record;
-use std::io;
+use std::{fmt, io};
 
 // The calls that make two coins, each of two squares, and join them by a face.
 const ROLL: [Call; 37] = [
@@ -51,108 +52,95 @@ const ROLL: [Call; 37] = [
     Call::Join(3, 4, 8),
 ];
 
-// Prints what a question answers: a number and the first entries of a list, or the refusal.
-fn tell(
-    rt: HostRuntime,
-    answer: Result<u16, Refusal>,
-    list: &[u16],
-    written: u16,
-) -> io::Result<()> {
-    match answer {
-        Ok(count) => {
-            print!(rt; " {count}:")?;
-            for entry in list.iter().take(written as usize) {
-                print!(rt; " {entry}")?;
-            }
-        }
-        Err(refusal) => {
-            let code = refusal.code();
-            print!(rt; " refused {code}")?;
-        }
-    }
-    println!(rt; "")
+// What a question lists, behind its count.
+#[derive(Drop)]
+struct Listing<'a> {
+    count: u16,
+    entries: &'a [u16],
 }
 
-// Asks a map for the orbit of tuple 4.
-fn ask_orbit<C: GMap>(rt: HostRuntime, map: &C, mask: u8) -> io::Result<()> {
-    let mut scratch = [0; 64];
-    let mut list = [0; 16];
-    print!(rt; "  orbit {mask} 4:")?;
-    let answer = orbit(map, mask, 4, &mut scratch, &mut list);
-    tell(rt, answer, &list, answer.unwrap_or(0))
+impl fmt::Display for Listing<'_> {
+    fn fmt<W: fmt::Write>(&self, f: &mut fmt::Formatter<W>) -> fmt::Result {
+        let count = self.count;
+        write!(f, "{count}:")?;
+        for entry in self.entries {
+            write!(f, " {entry}")?;
+        }
+        Ok(())
+    }
+}
+
+// The orbit of tuple 4.
+fn list_orbit<'a, C: GMap>(map: &C, mask: u8, list: &'a mut [u16]) -> Result<Listing<'a>, Refusal> {
+    let count = orbit(map, mask, 4, &mut [0; 64], list)?;
+    let entries = &list[..count as usize];
+    Ok(Listing { count, entries })
+}
+
+// The pieces.
+fn list_pieces<'a, C: GMap>(map: &C, list: &'a mut [u16]) -> Result<Listing<'a>, Refusal> {
+    let count = cells(map, map.top().saturating_add(1), &mut [0; 64], list)?;
+    let entries = &list[..map.size() as usize];
+    Ok(Listing { count, entries })
 }
 
 // Asks a map for two orbits, for its pieces, and whether it is lawful and whole.
 fn ask<C: GMap>(rt: HostRuntime, map: &C) -> io::Result<()> {
-    ask_orbit(rt, map, 1)?;
-    ask_orbit(rt, map, 3)?;
-    let mut scratch = [0; 64];
     let mut list = [0; 16];
-    print!(rt; "  pieces:")?;
-    let answer = cells(map, map.top().saturating_add(1), &mut scratch, &mut list);
-    tell(rt, answer, &list, map.size())?;
+    report(rt, "orbit 1 4", list_orbit(map, 1, &mut list))?;
+    report(rt, "orbit 3 4", list_orbit(map, 3, &mut list))?;
+    report(rt, "pieces", list_pieces(map, &mut list))?;
     let (law, all) = (lawful(map), whole(map));
     println!(rt; "  lawful {law}, whole {all}")
 }
 
-// Builds the roll on a pile, and asks Lower over it.
-fn survey<B: GMapMut + Drop>(rt: HostRuntime, name: &str, mut pile: B) -> io::Result<()> {
-    let mut scratch = [0; 64];
+// The board with the roll built on it.
+fn rolled<B: GMapMut>(mut board: B) -> B {
+    replay(&mut board, &ROLL, &mut [0; 64]);
+    board
+}
+
+// Asks Lower over a map.
+fn survey<C: GMap + Drop>(rt: HostRuntime, name: &str, map: C) -> io::Result<()> {
     println!(rt; "{name}")?;
-    replay(&mut pile, &ROLL, &mut scratch);
-    ask(rt, &Lower::over(pile))
+    ask(rt, &Lower::over(map))
 }
 
-fn through_dual<B: GMapMut + Drop>(rt: HostRuntime, board: B) -> io::Result<()> {
-    survey(rt, "dual", Dual::over(board))
-}
-
-fn through_shifted<B: GMapMut + Drop>(rt: HostRuntime, board: B) -> io::Result<()> {
-    survey(rt, "shifted by 5", Shifted::over(board, 5))
-}
-
+// Builds the roll on a pile of two layers.
 fn through_two<B: GMapMut + Drop>(rt: HostRuntime, board: B) -> io::Result<()> {
-    survey(
-        rt,
-        "dual of shifted by 65535",
-        Dual::over(Shifted::over(board, 65535)),
-    )
+    let pile = Dual::over(Shifted::over(board, 65535));
+    survey(rt, "dual of shifted by 65535", rolled(pile))
 }
 
+// Builds the roll on a pile of three layers.
 fn through_three<B: GMapMut + Drop>(rt: HostRuntime, board: B) -> io::Result<()> {
-    survey(
-        rt,
-        "shifted by 3 of dual of shifted by 20",
-        Shifted::over(Dual::over(Shifted::over(board, 20)), 3),
-    )
-}
-
-// Builds the roll on a board, and asks Lower over its dual: what is dropped is switch 0.
-fn dual_below<B: GMapMut + Drop>(rt: HostRuntime, mut board: B) -> io::Result<()> {
-    let mut scratch = [0; 64];
-    println!(rt; "read through its dual")?;
-    replay(&mut board, &ROLL, &mut scratch);
-    ask(rt, &Lower::over(Dual::over(board)))
+    let pile = Shifted::over(Dual::over(Shifted::over(board, 20)), 3);
+    survey(rt, "shifted by 3 of dual of shifted by 20", rolled(pile))
 }
 
 // The roll on rows and piles above them, with a top of 3 and with a top of 0.
 pub fn on_rows(rt: HostRuntime) -> io::Result<()> {
     let mut memory = [0; 64];
-    survey(rt, "rows", rows::lay::lay_out(&mut memory, 3, 16))?;
-    through_dual(rt, rows::lay::lay_out(&mut memory, 3, 16))?;
-    through_shifted(rt, rows::lay::lay_out(&mut memory, 3, 16))?;
+    survey(rt, "rows", rolled(rows::lay::lay_out(&mut memory, 3, 16)))?;
+    let pile = Dual::over(rows::lay::lay_out(&mut memory, 3, 16));
+    survey(rt, "dual", rolled(pile))?;
+    let pile = Shifted::over(rows::lay::lay_out(&mut memory, 3, 16), 5);
+    survey(rt, "shifted by 5", rolled(pile))?;
     through_two(rt, rows::lay::lay_out(&mut memory, 3, 16))?;
     through_three(rt, rows::lay::lay_out(&mut memory, 3, 16))?;
-    dual_below(rt, rows::lay::lay_out(&mut memory, 3, 16))?;
-    survey(rt, "top 0", rows::lay::lay_out(&mut memory, 0, 16))?;
+    // What Lower drops of a dual is switch 0.
+    let below = rolled(rows::lay::lay_out(&mut memory, 3, 16));
+    survey(rt, "read through its dual", Dual::over(below))?;
+    survey(rt, "top 0", rolled(rows::lay::lay_out(&mut memory, 0, 16)))?;
     through_three(rt, rows::lay::lay_out(&mut memory, 0, 16))
 }
 
 // The roll on slips and piles above them.
 pub fn on_slips(rt: HostRuntime) -> io::Result<()> {
     let mut memory = [Record::Unused; 48];
-    survey(rt, "slips", slips::lay::lay_out(&mut memory, 3, 16))?;
-    through_dual(rt, slips::lay::lay_out(&mut memory, 3, 16))?;
+    survey(rt, "slips", rolled(slips::lay::lay_out(&mut memory, 3, 16)))?;
+    let pile = Dual::over(slips::lay::lay_out(&mut memory, 3, 16));
+    survey(rt, "dual", rolled(pile))?;
     through_two(rt, slips::lay::lay_out(&mut memory, 3, 16))?;
     through_three(rt, slips::lay::lay_out(&mut memory, 3, 16))
 }

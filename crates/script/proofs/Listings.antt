@@ -1,10 +1,8 @@
 -- What a question wrote to the front of a list is what it is answered with.
-use Rattle.std.proofs.Common.{◌≡◌, ℕ, ◌<◌, ◌≤◌, List, ◌∷◌, length, get_or, take, sym, refl, ap, ◌∙◌, inr, ⊎_elim, arith}
+use Rattle.std.proofs.Common.{◌≡◌, ℕ, ◌<◌, List, ◌∷◌, length, get_or, take, sym, ap, ◌∙◌, arith}
 use Rattle.std.proofs.lemmas.List.{get_or-take, length-take-le}
-use Rattle.std.proofs.lemmas.Bool.{cases_lt}
-use Rattle.gmap.specs.Asking.{Short, Labelled}
 use Rattle.gmap.specs.Listing.{Listed}
-use Rattle.gmap.specs.Map.{Map, Partners, Same}
+use Rattle.gmap.specs.Map.{Map, Same}
 use Rattle.gmap.proofs.Same.{same_refl}
 use Rattle.script.specs.Answering.{Upward}
 
@@ -22,22 +20,3 @@ pub orbit_listed : (m : Map) (P : ℕ → Type 0) (n : ℕ) (old new : List ℕ)
 orbit_listed m P n old new h =
     let long : length (take n new) ≡ n = length-take-le n new (omega (arith, h.fits, h.long)) in
     (take n new, ap (λ k. k ∷ take n new) (sym long), listed_upward P n old new h, same_refl m)
-
--- what is written is as long as the map, which the list has room for
-pub cells_listed : (m : Map) (i n w : ℕ) (old new : List ℕ) (scratch : ℕ) → Partners m → (Short m scratch (length old) → ⊥) → w ≡ m.size → Labelled m i n old new → (k : ℕ) × (xs : List ℕ) × (n ∷ take w new ≡ k ∷ xs) × (length xs ≡ m.size) × Labelled m i k xs xs × Same m m
-cells_listed m i n w old new scratch law room is h =
-    let fits : m.size ≤ length new = ⊎_elim (λ few. absurd (room (inr (omega (arith, h.long))))) (λ fits. fits) (cases_lt (length new) m.size) in
-    let at : (t : ℕ) → t < m.size → get_or (take m.size new) t 0 ≡ get_or new t 0 = λ t inside. get_or-take m.size new t 0 inside in (
-      n,
-      take m.size new,
-      ap (λ k. n ∷ take k new) is,
-      length-take-le m.size new fits,
-      record {
-        long = refl;
-        tuples = λ t live. rw (at t (law.inside t live)) (h.tuples t live);
-        vacants = λ t inside vacant. at t inside ∙ h.vacants t inside vacant;
-        behind = λ k past. refl;
-        count = h.count;
-      },
-      same_refl m,
-    )

@@ -1,10 +1,61 @@
-// What a request is answered with.
+// What a request is answered with, and how an answer is printed.
+ghost use Rattle.std.specs.Prelude.{Some};
+ghost use Rattle.script.specs.Printing.{spaced, printed};
+ghost use Rattle.script.specs.Replies.{values_of, answer_of};
 
-// What an accepted request comes to. What it lists stays in the list that was lent: here are a count and how many entries were written.
-#[derive(Clone, Copy)]
-pub enum Reply {
+use gmap::refusal::Refusal;
+use std::fmt;
+
+// What an accepted request comes to. What it lists is borrowed from the list that was lent.
+#[derive(Clone, Copy, PartialEq, Eq, Debug)]
+pub enum Reply<'a> {
     Done,
     Count(u16),
     Truth(bool),
-    Listed { count: u16, written: u16 },
+    Listed { count: u16, entries: &'a [u16] },
+}
+
+// Each number behind a space.
+impl fmt::Display for Reply<'_> {
+    ghost output = { λ reply. Some (spaced (values_of reply)) };
+
+    fn fmt<W: fmt::Write>(&self, f: &mut fmt::Formatter<W>) -> fmt::Result {
+        match self {
+            Reply::Done => Ok(()),
+            Reply::Count(count) => write!(f, " {count}"),
+            Reply::Truth(holds) => {
+                let truth = u16::from(*holds);
+                write!(f, " {truth}")
+            }
+            Reply::Listed { count, entries } => {
+                write!(f, " {count}")?;
+                for entry in *entries {
+                    write!(f, " {entry}")?;
+                }
+                Ok(())
+            }
+        }
+    }
+}
+
+// A line that is printed: the number of the line that it answers, and the answer.
+#[derive(Clone, Copy, Debug)]
+pub struct Line<'a> {
+    pub number: u32,
+    pub answer: Result<Reply<'a>, Refusal>,
+}
+
+impl fmt::Display for Line<'_> {
+    ghost output = { λ line. Some (printed line.number (answer_of line.answer)) };
+
+    fn fmt<W: fmt::Write>(&self, f: &mut fmt::Formatter<W>) -> fmt::Result {
+        let number = self.number;
+        match self.answer {
+            Ok(reply) => write!(f, "{number} OK{reply}\n"),
+            Err(refusal) => {
+                let code = refusal.code();
+                write!(f, "{number} NO {code}\n")
+            }
+        }
+    }
 }

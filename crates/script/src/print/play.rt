@@ -6,10 +6,10 @@ ghost use Rattle.script.specs.Transcript.{empty, Told, Transcript, Appended};
 
 use super::push_line;
 use crate::reply::Reply;
-use crate::serve::answer;
+use crate::serve::Desk;
 use gmap::map::{GMapMut, Reads};
 use gmap::refusal::Refusal;
-use reading::cut::split_first;
+use reading::cut::{Pieces, split_first};
 use reading::opening::{Opening, read_opening};
 use reading::word::{Kind, words};
 use rows::lay::lay_out;
@@ -32,20 +32,14 @@ fn play<B: GMapMut>(
     let size = board.size() as usize;
     let mut scratch = vec![in heap; 0; 4 * size]?;
     let mut list = vec![in heap; 0; size]?;
-    let mut rest = lines;
-    let mut line = 2;
-    while !rest.is_empty() {
-        let (bytes, back) = split_first(rest, b'\n');
-        rest = back;
+    for (line, bytes) in (2..).zip(Pieces::new(lines, b'\n')) {
         let found = words(heap, line, bytes)?;
-        let reply = answer(
-            board,
-            found.as_slice(),
-            scratch.as_mut_slice(),
-            list.as_mut_slice(),
-        );
-        push_line(out, line, reply, list.as_slice())?;
-        line += 1;
+        let desk = Desk {
+            scratch: scratch.as_mut_slice(),
+            list: list.as_mut_slice(),
+        };
+        let answer = desk.answer(board, found.as_slice());
+        push_line(heap, out, line, answer)?;
     }
     Ok(())
 }
@@ -76,7 +70,7 @@ pub fn run(heap: Global, script: &[u8], out: &mut Vec<u8>) -> Result<(), AllocEr
     ensures { OnOk result (Appended (Transcript script.now) out.old.items out.new.items) }
 {
     if script.len() > LONGEST {
-        return push_line(out, 0, Err(Refusal::Oversize), &[]);
+        return push_line(heap, out, 0, Err(Refusal::Oversize));
     }
     if script.is_empty() {
         return Ok(());
@@ -85,9 +79,9 @@ pub fn run(heap: Global, script: &[u8], out: &mut Vec<u8>) -> Result<(), AllocEr
     let found = words(heap, 1, first)?;
     match read_opening(found.as_slice()) {
         Ok(opening) => {
-            push_line(out, 1, Ok(Reply::Done), &[])?;
+            push_line(heap, out, 1, Ok(Reply::Done))?;
             start(heap, opening, rest, out)
         }
-        Err(refusal) => push_line(out, 1, Err(refusal), &[]),
+        Err(refusal) => push_line(heap, out, 1, Err(refusal)),
     }
 }

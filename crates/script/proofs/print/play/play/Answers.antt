@@ -1,26 +1,21 @@
 -- One line more, and in the end all of them.
-use Rattle.std.proofs.Common.{◌++◌, vec_items, refl, ap, ◌∙◌, rules}
-use Rattle.std.proofs.lemmas.List.{with_items_is}
+use Rattle.std.proofs.Common.{refl, rules, ⊎_elim, arith}
 use Rattle.reading.specs.Requests.{request_of}
-use Rattle.script.specs.Printing.{printed}
-use Rattle.script.specs.Replies.{answer_of}
-use Rattle.script.proofs.Plays.{playing_none, playing_more, playing_done}
-use Rattle.script.proofs.Readings.{some_bytes, read_from}
+use Rattle.script.proofs.Plays.{few_pieces, playing_none, playing_more, playing_done}
+use Rattle.script.proofs.Readings.{read_from}
 use Rattle.script.proofs.print.play.play.Goals as goal
 
-pub loop-rest-init : goal.loop-rest-init
-loop-rest-init g c = playing_none _ _ _ _ _ _ c.in_ok-scratch.ensures.len c.in_ok-list.ensures.len c.size-size.ensures
+pub loop-line-init : goal.loop-line-init
+loop-line-init g c = playing_none (search rules) (search rules) c.in_ok-scratch.ensures.len c.in_ok-list.ensures.len c.size-size.ensures
 
-pub loop-rest-preserved : goal.loop-rest-preserved
-loop-rest-preserved g c =
-    let some = some_bytes c.loop-rest.rest.now c.loop-rest-test.ensures in
-    let split = c.split_first.ensures in
+pub loop-line-preserved : goal.loop-line-preserved
+loop-line-preserved g c =
     let request = read_from request_of c.in_ok-found.ensures c.as_slice.ensures.value refl in
-    let scratch_long = c.as_mut_slice.ensures.len in
-    let list_long = c.as_mut_slice-in-loop-rest.ensures.len in
-    let list = c.as_slice-in-loop-rest.ensures.value ∙ with_items_is c.loop-rest.list c.answer-reply.new.list (c.answer-reply.auto.list ∙ list_long) in
-    playing_more _ _ _ _ _ _ _ _ _ _ _ _ _ _ _ _ _ c.loop-rest.invariant some split.front split.back request scratch_long list_long c.answer-reply.ensures
-    (c.in_ok-push_line.ensures ∙ ap (λ x. vec_items c.loop-rest.out ++ printed c.loop-rest.line (answer_of c.answer-reply.result x)) list)
+    playing_more _ c.loop-line.invariant c.in-Some.ensures.steps.1 c.in-Some.ensures.steps.0.0 c.in-Some.ensures.steps.0.1 request c.as_mut_slice.ensures.len c.as_mut_slice-in-loop-line.ensures.len c.answer-answer.ensures c.in_ok-push_line.ensures
 
+-- The numbers of the lines do not run out before the lines.
 pub returns : goal.returns
-returns g c = playing_done _ _ _ _ _ _ _ _ _ (g.met.B.GMap.partners c.args.board.now) c.requires.fresh c.loop-rest.invariant (search rules)
+returns g c =
+    let few = few_pieces 10 c.args.lines.now in
+    playing_done (g.met.B.GMap.partners c.args.board.now) c.requires.fresh c.loop-line.invariant
+    (⊎_elim (λ end. absurd (omega (arith, end.1.0, c.loop-line.invariant.few, few, c.requires.few))) (λ end. end.1.0) c.in-None.ensures.steps)

@@ -1,5 +1,0 @@
--- Each call has one digit less.
-use Rattle.script.proofs.print.+push_number.Given as goal
-
-abbrev pub decreases-push_number : goal.decreases-push_number
-decreases-push_number l = l.n

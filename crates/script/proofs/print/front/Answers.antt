@@ -1,7 +1,0 @@
--- A shorter list is its own front.
-use Rattle.std.proofs.Common.{rules}
-use Rattle.std.proofs.lemmas.List.{take_all}
-use Rattle.script.proofs.print.front.Goals as goal
-
-pub returns-in-None : goal.returns-in-None
-returns-in-None c = search (rules, take_all)

@@ -1,6 +1,0 @@
--- The parts of a line are appended one behind the other.
-use Rattle.std.proofs.Common.{append_assoc, rules}
-use Rattle.script.proofs.print.push_line.Goals as goal
-
-pub returns : goal.returns
-returns c = search (rules, append_assoc)
