@@ -136,6 +136,7 @@ pub fn on_rows(rt: HostRuntime) -> io::Result<()> {
 }
 
 // The roll on slips and piles above them.
+// It stands beside on_rows, since a closure that lays out a board in captured memory cannot return what borrows it.
 pub fn on_slips(rt: HostRuntime) -> io::Result<()> {
     let mut memory = [Record::Unused; 48];
     survey(rt, "slips", rolled(slips::lay::lay_out(&mut memory, 3, 16)))?;

@@ -49,9 +49,6 @@ pub record Playing (m k : Map) (ls rs : List (List ℕ)) (n : ℕ) (old new : Li
   pub scratch : a ≡ 4 * k.size
   pub list : b ≡ k.size
 
-pub playing_none : {m : Map} {ls rs : List (List ℕ)} {n : ℕ} {old : List ℕ} {a b size : ℕ} → rs ≡ ls → n ≡ 2 → a ≡ 4 * size → b ≡ size → size ≡ m.size → Playing m m ls rs n old old a b
-playing_none {old = old} all first scratch list is = rw (all, first) (record { few = omega arith; told = ([], sym (append-nil old), λ rest told. told); scratch = scratch ∙ ap (λ n. 4 * n) is; list = list ∙ is })
-
 module _ {m k k' : Map} {ls rs qs : List (List ℕ)} {front : List ℕ} {n line n' : ℕ} {old new after : List ℕ} {a b a' b' : ℕ} {q : Result Request Refusal} (r : Result (List ℕ) Refusal) where
   pub playing_more : Playing m k ls rs n old new a b → rs ≡ front ∷ qs → line ≡ n → n' ≡ line + 1 → q ≡ request_of (map sense_of (words_of front)) → a' ≡ a → b' ≡ b → Asked a' b' k q r k' → after ≡ new ++ printed line r → Playing m k' ls qs n' old after a b
   playing_more h is_rs is_line is_next is_q is_a is_b asked is =

@@ -1,25 +1,13 @@
 -- A script is its opening and the lines behind it.
-use Rattle.std.proofs.Common.{◌≡◌, ℕ, ◌<◌, ◌≤◌, List, [], ◌∷◌, ◌++◌, map, length, Some, None, Ok, Err, Option, Result, sym, refl, ap, ◌∙◌, subst, append_assoc, append-nil, arith}
-use Rattle.std.proofs.lemmas.Bool.Decides.{nat_tests}
+use Rattle.std.proofs.Common.{◌≡◌, ℕ, ◌<◌, ◌≤◌, List, [], ◌∷◌, ◌++◌, map, length, Ok, Err, Result, refl, ap, ◌∙◌, subst, append_assoc, arith}
 use Rattle.gmap.specs.declared.refusal.Refusal.{Refusal}
-use Rattle.reading.specs.Openings.{bounded, opened_of, opening_of}
+use Rattle.reading.specs.Openings.{opening_of}
 use Rattle.reading.specs.Pieces.{before, behind, lines_of, words_of}
-use Rattle.reading.specs.Words.{Sense, sense_of}
+use Rattle.reading.specs.Words.{sense_of}
 use Rattle.reading.specs.declared.opening.Opening.{Opening}
 use Rattle.reading.proofs.Cuts.{pieces_step}
 use Rattle.script.specs.Printing.{printed}
 use Rattle.script.specs.Transcript.{empty, Told, Opened, Transcript, Appended}
-
-bounded_ok : (p : Option Opening) (o : Opening) → Ok o ≡ bounded p → (o.top ≤ 7) × (o.size ≤ 1024)
-bounded_ok None o is = grind arith
-bounded_ok (Some p) o is = grind (arith, nat_tests)
-
-pub opening_small : (ss : List Sense) (o : Opening) → Ok o ≡ opening_of ss → (o.top ≤ 7) × (o.size ≤ 1024)
-opening_small ss o is = bounded_ok (opened_of ss) o is
-
-pub script_none : (s old : List ℕ) → length s ≡ 0 → Appended (Transcript s) old old
-script_none [] old none = ([], sym (append-nil old), record { long = λ long. absurd (omega arith); lines = λ _. refl })
-script_none (c ∷ s) old none = absurd (omega arith)
 
 module _ (s front : List ℕ) (some : 0 < length s) (few : length s ≤ 65536) (is_front : front ≡ before 10 s) where
   opened_transcript : (o : Result Opening Refusal) (out : List ℕ) → o ≡ opening_of (map sense_of (words_of front)) → Opened o (lines_of (behind 10 s)) out → Transcript s out

@@ -50,6 +50,7 @@ impl<'a> Desk<'a> {
     }
 
     // Carries out a request. What it lists is written to the front of the list.
+    // A request is matched here, and is no closure, since the transcript speaks of it as a value.
     fn serve<B: GMapMut>(self, board: &mut B, request: Request) -> Result<Reply<'a>, Refusal>
         ensures { Answers (length self.entry.scratch.now) (length self.entry.list.now) (B.Reads.meaning board.old) request (answer_of result) (B.Reads.meaning board.new) }
     {

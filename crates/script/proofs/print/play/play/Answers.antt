@@ -1,12 +1,9 @@
 -- One line more, and in the end all of them.
-use Rattle.std.proofs.Common.{refl, rules, ⊎_elim, arith}
+use Rattle.std.proofs.Common.{refl, ⊎_elim, arith}
 use Rattle.reading.specs.Requests.{request_of}
-use Rattle.script.proofs.Plays.{few_pieces, playing_none, playing_more, playing_done}
+use Rattle.script.proofs.Plays.{few_pieces, playing_more, playing_done}
 use Rattle.script.proofs.Readings.{read_from}
 use Rattle.script.proofs.print.play.play.Goals as goal
-
-pub loop-line-init : goal.loop-line-init
-loop-line-init g c = playing_none (search rules) (search rules) c.in_ok-scratch.ensures.len c.in_ok-list.ensures.len c.size-size.ensures
 
 pub loop-line-preserved : goal.loop-line-preserved
 loop-line-preserved g c =

@@ -1,21 +1,9 @@
--- No line, a refused opening, or an accepted one with the lines behind it.
-use Rattle.std.proofs.Common.{map, length, sym, ap, arith, eqb-true}
+-- A refused opening, or an accepted one with the lines behind it.
 use Rattle.std.proofs.lemmas.Result.{IfOk-weaker}
 use Rattle.reading.specs.Openings.{opening_of}
-use Rattle.reading.specs.Words.{sense}
-use Rattle.reading.proofs.Cuts.{length_behind}
 use Rattle.script.proofs.Readings.{some_bytes, read_from}
-use Rattle.script.proofs.Scripts.{opening_small, script_none, script_refused, script_played}
+use Rattle.script.proofs.Scripts.{script_refused, script_played}
 use Rattle.script.proofs.print.play.run.Goals as goal
-
-pub returns-then-is_empty : goal.returns-then-is_empty
-returns-then-is_empty c = script_none c.args.script.now _ (eqb-true _ _ (sym c.if-is_empty.ensures))
-
-pub start-requires : goal.start-requires
-start-requires c =
-    let some = some_bytes c.args.script.now c.if-is_empty.ensures in
-    let small = opening_small (map sense c.as_slice.result.now) _ c.in-Ok.ensures.value in
-    record { few = omega (arith, length_behind 10 c.args.script.now some, ap length c.split_first.ensures.back); top = small.0; size = small.1 }
 
 pub returns-in-Ok : goal.returns-in-Ok
 returns-in-Ok c =
