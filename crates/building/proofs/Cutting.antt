@@ -8,7 +8,7 @@ use Rattle.gmap.specs.Listing.{Among}
 use Rattle.gmap.proofs.Counting.{counts_like, counts_more}
 use Rattle.gmap.proofs.Listing.{among_cases, among_suc, among_last, among_split}
 use Rattle.gmap.proofs.Acts.{untied_frame, untied_left, untied_right, untied_rest}
-use Rattle.building.proofs.Frames.{frame_trans, frame_same}
+use Rattle.gmap.proofs.Frames.{frame_then, frame_same}
 
 pub cut_like : (m : Map) (i : ℕ) (P Q : ℕ → Type 0) (n : ℕ) (m' : Map) → ((x : ℕ) → P x → Q x) → ((x : ℕ) → Q x → P x) → AllCut m i P n m' → AllCut m i Q n m'
 cut_like m i P Q n m' to fro s =
@@ -92,7 +92,7 @@ module _ (m : Map) (law : Partners m) (i : ℕ) (xs : List ℕ) (k n : ℕ) (now
     pub cut_more : AllCut m i (Among xs (k + 1)) (n + 1) next
     cut_more =
         record {
-          frame = frame_trans i m now next s.frame (frame_same i now (untied now i x) next (untied_frame now i x) same);
+          frame = frame_then s.frame (frame_same (untied_frame now i x) same);
           cuts = λ y a. ⊎_elim
               (λ e. free_here y (inl e))
               (λ e. ⊎_elim

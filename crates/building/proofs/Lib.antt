@@ -1,6 +1,5 @@
 -- Lemmas of join and part.
 pub mod Sides
-pub mod Frames
 pub mod Cutting
 pub mod Couples
 pub mod Matching

@@ -11,7 +11,7 @@ use Rattle.gmap.proofs.Counting.{counts_like, counts_more}
 use Rattle.gmap.proofs.Listing.{among_cases, among_suc, among_last, among_split}
 use Rattle.building.specs.Tying.{PairsOf, Tieable}
 use Rattle.gmap.proofs.Acts.{tie_accepted, tied_frame, tied_left, tied_right, tied_rest}
-use Rattle.building.proofs.Frames.{frame_trans, frame_same}
+use Rattle.gmap.proofs.Frames.{frame_then, frame_same}
 
 pub tie_like : (m : Map) (i : ℕ) (R Q : ℕ → ℕ → Type 0) (n : ℕ) (m' : Map) → ((x y : ℕ) → R x y → Q x y) → ((x y : ℕ) → Q x y → R x y) → AllTied m i R n m' → AllTied m i Q n m'
 tie_like m i R Q n m' to fro s =
@@ -110,7 +110,7 @@ module _ (m : Map) (i : ℕ) (xs ms : List ℕ) (c : ℕ) (able : Tieable m i xs
     pub tie_more : AllTied m i After (n + 1) next
     tie_more =
         record {
-          frame = frame_trans i m now next s.frame (frame_same i now (tied now i x y) next (tied_frame now i x y) same);
+          frame = frame_then s.frame (frame_same (tied_frame now i x y) same);
           ties = λ a b q. ⊎_elim (λ p. let (e, f) = off a b p in elsewhere a e f ∙ s.ties a b p) (at_here a b) (splits a b q);
           rest = λ a q. elsewhere a (λ e. q y (here a y (inl (e, refl)))) (λ e. q x (here a x (inr (e, refl)))) ∙ s.rest a (λ b p. q b (grows a b p));
           count = let (z, low, none, only) = lower in counts_more _ _ n z (λ (b, p, l). none b p) (λ a (b, p, l). (b, grows a b p, l)) low (λ a (b, q, l). ⊎_elim (λ p. inl (b, p, l)) (λ h. inr (only a b h l)) (splits a b q)) s.count;

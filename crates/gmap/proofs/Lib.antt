@@ -7,3 +7,4 @@ pub mod Listing
 pub mod Outcomes
 pub mod Same
 pub mod Acts
+pub mod Frames

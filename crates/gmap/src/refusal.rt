@@ -1,6 +1,8 @@
 // Why a call was refused. A refused call has changed nothing.
-ghost use Rattle.std.specs.Prelude.{◌≡◌};
+ghost use Rattle.std.specs.Prelude.{◌≡◌, Some, decimal};
 ghost use Rattle.gmap.specs.Refusals.{number};
+
+use std::fmt;
 
 #[derive(Clone, Copy, PartialEq, Eq, Debug)]
 pub enum Refusal {
@@ -25,5 +27,15 @@ impl Refusal {
         ensures { result ≡ number self }
     {
         self as u16
+    }
+}
+
+// It is printed as its number.
+impl fmt::Display for Refusal {
+    ghost output = { λ refusal. Some (decimal (number refusal)) };
+
+    fn fmt<W: fmt::Write>(&self, f: &mut fmt::Formatter<W>) -> fmt::Result {
+        let code = self.code();
+        write!(f, "{code}")
     }
 }

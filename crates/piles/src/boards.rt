@@ -44,12 +44,12 @@ fn tie_pairs<B: GMapMut>(board: &mut B, i: u16) -> Result<(), Refusal> {
 }
 
 // Fills a board of 16 slots and top 3.
-fn fill<B: GMapMut>(board: &mut B) -> Result<&'static str, Refusal> {
+fn fill<B: GMapMut>(board: &mut B) -> Result<(), Refusal> {
     open_below(board, 16)?;
     for i in 0..4 {
         tie_pairs(board, i)?;
     }
-    Ok("done")
+    Ok(())
 }
 
 // Unties slot t in the four switches.
@@ -61,13 +61,18 @@ fn untie_from<B: GMapMut>(board: &mut B, t: u16) -> Result<(), Refusal> {
 }
 
 // Unties the pairs again, and closes their slots.
-fn drain<B: GMapMut>(board: &mut B) -> Result<&'static str, Refusal> {
+fn drain<B: GMapMut>(board: &mut B) -> Result<(), Refusal> {
     for pair in 0..8 {
         untie_from(board, 2 * pair)?;
         board.close_slot(2 * pair)?;
         board.close_slot(2 * pair + 1)?;
     }
-    Ok("done")
+    Ok(())
+}
+
+// Prints that a step was done, or the number of its refusal.
+fn report_done(rt: HostRuntime, step: &str, outcome: Result<(), Refusal>) -> io::Result<()> {
+    report(rt, step, outcome.map(|()| "done"))
 }
 
 // Fills slips to the last record and empties them again, and so through a pile.
@@ -77,13 +82,13 @@ pub fn fill_slips(rt: HostRuntime) -> io::Result<()> {
     let filled = fill(&mut board);
     let used = board.used();
     println!(rt; "slips for 16 slots and top 3: {used} of 48 records used")?;
-    report(rt, "filled", filled)?;
-    report(rt, "emptied", drain(&mut board))?;
+    report_done(rt, "filled", filled)?;
+    report_done(rt, "emptied", drain(&mut board))?;
     let used = board.used();
     println!(rt; "  {used} records used")?;
     let mut pile = Dual::over(Shifted::over(board, 7));
-    report(rt, "filled through a pile", fill(&mut pile))?;
-    report(rt, "emptied through a pile", drain(&mut pile))
+    report_done(rt, "filled through a pile", fill(&mut pile))?;
+    report_done(rt, "emptied through a pile", drain(&mut pile))
 }
 
 // Prints the partners of every tuple in a switch.
@@ -98,14 +103,13 @@ fn show<C: GMap>(rt: HostRuntime, map: &C, i: u16) -> io::Result<()> {
 }
 
 // Ties that no join makes: switches 0 and 2 do not commute.
-fn tie_unlawfully<B: GMapMut>(board: &mut B) -> Result<&'static str, Refusal> {
+fn tie_unlawfully<B: GMapMut>(board: &mut B) -> Result<(), Refusal> {
     open_below(board, 6)?;
     board.tie(0, 0, 1)?;
     board.tie(2, 1, 2)?;
     board.tie(1, 2, 3)?;
     board.tie(1, 1, 5)?;
-    board.tie(1, 0, 4)?;
-    Ok("done")
+    board.tie(1, 0, 4)
 }
 
 // Removes the edge of tuple 1 from a board that is not lawful: two steps lead from 3 to 5, and from 4 the walk turns back.
@@ -113,7 +117,7 @@ pub fn remove_unlawfully(rt: HostRuntime) -> io::Result<()> {
     let mut memory = [0; 18];
     let mut board = rows::lay::lay_out(&mut memory, 2, 6);
     println!(rt; "a removal on a board that is not lawful")?;
-    report(rt, "tied", tie_unlawfully(&mut board))?;
+    report_done(rt, "tied", tie_unlawfully(&mut board))?;
     let law = lawful(&board);
     println!(rt; "  lawful {law}")?;
     let taken = remove(&mut board, 1, 1, &mut [0; 24]).unwrap_or(0);

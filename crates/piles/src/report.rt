@@ -11,9 +11,6 @@ pub fn report<T: Display + Drop>(
 ) -> io::Result<()> {
     match outcome {
         Ok(result) => println!(rt; "  {step}: {result}"),
-        Err(refusal) => {
-            let code = refusal.code();
-            println!(rt; "  {step}: refused {code}")
-        }
+        Err(refusal) => println!(rt; "  {step}: refused {refusal}"),
     }
 }

@@ -18,6 +18,7 @@ fn linked_below<C: GMap>(tuple: &Tuple<C>) -> bool
 }
 
 // Whether the map is whole.
+// The loop is that of lawful: one over a closure would say what it answers at every tuple, in more words than the loop has.
 pub fn whole<C: GMap>(map: &C) -> bool
     ensures { MatchBool result (Whole (C.Reads.meaning map.now)) (Whole (C.Reads.meaning map.now) → ⊥) }
 {

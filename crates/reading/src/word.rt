@@ -95,6 +95,7 @@ impl<'a> From<Part<'a>> for Word<'a> {
 
 impl<'a> Word<'a> {
     // The kind that the word is.
+    // This and the next two look at a variant each: one for all would need a trait that names the variant.
     pub(crate) fn kind(&self) -> Option<Kind>
         ensures { result ≡ named (sense self.now) }
     {

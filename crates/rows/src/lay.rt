@@ -34,7 +34,7 @@ pub fn lay_out<'a>(memory: &'a mut [u16], top: u16, size: u16) -> Rows<'a>
     }
 }
 
-// Rows of that top and size, every slot vacant. What lies behind them is as before.
+// Rows of that top and size, every slot vacant.
 #[tactic(auto, using(crate::proofs::Vacant::vacant_sound, crate::proofs::Vacant::vacant_fresh))]
 fn empty<'a>(memory: &'a mut [u16], top: u16, size: u16) -> Rows<'a>
     requires { TooLarge (length memory.old) (rows_need top size) top size → ⊥ }

@@ -2,7 +2,7 @@
 ghost use Rattle.std.specs.Prelude.{◌≡◌, ◌+◌, ◌*◌, ◌<◌, ◌≤◌, length};
 ghost use Rattle.rows.specs.Numbers.{Sound};
 
-// The number in every row of a vacant slot.
+// The number in every row of a vacant slot. The memory is lent as numbers, with no room for an Option, and no slot has this number.
 pub(crate) const VACANT: u16 = 65535;
 
 // A map with a row of numbers for each switch: number t of row i is the partner of t in switch i.

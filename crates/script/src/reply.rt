@@ -52,10 +52,7 @@ impl fmt::Display for Line<'_> {
         let number = self.number;
         match self.answer {
             Ok(reply) => write!(f, "{number} OK{reply}\n"),
-            Err(refusal) => {
-                let code = refusal.code();
-                write!(f, "{number} NO {code}\n")
-            }
+            Err(refusal) => write!(f, "{number} NO {refusal}\n"),
         }
     }
 }

@@ -4,7 +4,7 @@ use Rattle.gmap.specs.Map.{Map, Partners}
 use Rattle.splitting.specs.Edges.{count, member, IsBeside, Tieable}
 use Rattle.splitting.specs.Stages.{Retied, Ended}
 use Rattle.splitting.specs.declared.edge.Edge.{Edge}
-use Rattle.splitting.proofs.Frames.{frame_then}
+use Rattle.gmap.proofs.Frames.{frame_then}
 use Rattle.splitting.proofs.Places.{same_place}
 
 module _ (m : Map) (edge : Edge) (able : Tieable m edge) (k : ℕ) (h : k < count edge) (now : Map) (law : Partners now) (w : Ended m edge k now) (next : Map) (y : ℕ) (beside : IsBeside edge (member edge k) y) (tied : Retied (member edge k) y now next) where

@@ -1,5 +1,4 @@
 -- Lemmas of a split.
-pub mod Frames
 pub mod Opening
 pub mod Places
 pub mod Linking

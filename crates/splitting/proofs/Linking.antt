@@ -11,7 +11,7 @@ use Rattle.gmap.proofs.Same.{same_path}
 use Rattle.splitting.specs.Edges.{under, IsBeside, count, member, place, Seated, Linkable}
 use Rattle.splitting.specs.Stages.{Linked, AllLinked}
 use Rattle.splitting.specs.declared.edge.Edge.{Edge}
-use Rattle.splitting.proofs.Frames.{frame_then}
+use Rattle.gmap.proofs.Frames.{frame_then}
 use Rattle.splitting.proofs.Places.{under_off, place_low, place_is, place_back, seated_kept, old_place}
 
 module _ (m : Map) (law : Partners m) (j : ℕ) (edge : Edge) (able : Linkable m j edge) where
