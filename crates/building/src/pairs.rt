@@ -1,5 +1,5 @@
 // The pairs of a join: each tuple of the two sides with its mate.
-ghost use Rattle.std.specs.Prelude.{◌≡◌, ◌+◌, ◌<◌, ◌≤◌, true, length, MatchResult};
+ghost use Rattle.std.specs.Prelude.{◌≡◌, ◌+◌, ◌<◌, ◌≤◌, true, length, MatchOption, MatchResult, slice_index};
 ghost use Rattle.gmap.specs.Building.{Fits};
 ghost use Rattle.gmap.specs.Map.{Far};
 ghost use Rattle.gmap.specs.declared.refusal.Refusal.TheVariants.{Misfit};
@@ -13,8 +13,19 @@ use gmap::switches::far;
 use gmap::tuple::Tuple;
 
 // What a table of mates has at a tuple whose mate is not known yet.
-// The table is lent as numbers, with no room for an Option, so the one number stands for none that no slot has.
+// The table is lent as numbers, with no room for an Option; a look makes one of it.
 pub(crate) const UNKNOWN: u16 = 65535;
+
+// The mate of x, if it is known.
+fn mate(mates: &[u16], x: u16) -> Option<u16>
+    requires { x < length mates.now }
+    ensures { MatchOption result (slice_index mates.now x ≡ 65535) (λ y. (y ≡ slice_index mates.now x) × Known mates.now x) }
+{
+    match mates[x as usize] {
+        UNKNOWN => None,
+        y => Some(y),
+    }
+}
 
 // Makes x and y mates, unless they are; one that has another mate is a misfit.
 fn couple(mates: &mut [u16], x: u16, y: u16) -> Result<(), Refusal>
@@ -25,12 +36,9 @@ fn couple(mates: &mut [u16], x: u16, y: u16) -> Result<(), Refusal>
     if mates[x as usize] == y {
         return Ok(());
     }
-    if mates[x as usize] != UNKNOWN {
+    let (None, None) = (mate(mates, x), mate(mates, y)) else {
         return Err(Refusal::Misfit);
-    }
-    if mates[y as usize] != UNKNOWN {
-        return Err(Refusal::Misfit);
-    }
+    };
     mates[x as usize] = y;
     mates[y as usize] = x;
     Ok(())

@@ -1,8 +1,8 @@
-// What rows answer. A look at a partner takes one load.
+// What rows answer.
 ghost use Rattle.rows.specs.Meaning.{map_of};
 ghost use Rattle.rows.specs.Law.{rows_partners};
 
-use crate::rows::{Rows, VACANT};
+use crate::rows::Rows;
 use gmap::map::{GMap, Reads};
 use gmap::refusal::Refusal;
 
@@ -19,7 +19,7 @@ impl<'a> Reads for Rows<'a> {
 
     // Row 0 stands for all: a slot is vacant in every row or in none.
     fn is_live(&self, t: u16) -> bool {
-        t < self.size && self.numbers[t as usize] != VACANT
+        t < self.size && self.look(0, t).is_some()
     }
 
     fn partner(&self, i: u16, t: u16) -> Result<u16, Refusal> {
@@ -29,11 +29,7 @@ impl<'a> Reads for Rows<'a> {
         if t >= self.size {
             return Err(Refusal::NoSlot);
         }
-        let number = self.numbers[self.place(i, t)];
-        if number == VACANT {
-            return Err(Refusal::Vacant);
-        }
-        Ok(number)
+        self.look(i, t).ok_or(Refusal::Vacant)
     }
 }
 
