@@ -12,7 +12,7 @@ use protection::call::{Answer, Call};
 use removal::remove;
 use splitting::split;
 
-// Hands a call on to the function that carries it out.
+// Hands a call on to the function that carries it out. A call is a value: lists of them are what the protection speaks of.
 fn carry_out<B: GMapMut>(board: &mut B, call: Call, scratch: &mut [u16]) -> Result<Answer, Refusal>
     ensures outcome { Performed (length scratch.old) call (B.Reads.meaning board.old) result (B.Reads.meaning board.new) }
     ensures spared { length scratch.old < 4 * (B.Reads.meaning board.old).size → scratch.new ≡ scratch.old }

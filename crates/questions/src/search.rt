@@ -15,7 +15,8 @@ use crate::switches::Switches;
 use gmap::map::GMap;
 use gmap::tuple::Tuple;
 
-// Whether the scratch or the list is too short for a map.
+// Whether the scratch or the list is too short for a map. That a short scratch stays as it was is what each call promises
+// of its own argument: a slice that is lent has no type to say it.
 fn too_short<C: GMap>(map: &C, scratch: usize, out: usize) -> bool
     ensures { MatchBool result (Short (C.Reads.meaning map.now) scratch out) (Short (C.Reads.meaning map.now) scratch out → ⊥) }
 {

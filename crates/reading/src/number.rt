@@ -18,7 +18,7 @@ pub fn number(word: &[u8]) -> Option<u16>
     }
 }
 
-// The digit that a byte writes.
+// The digit that a byte writes. The library's to_digit would want a char and give 32 bits.
 fn digit(byte: u8) -> Option<u16>
     ensures { result ≡ digit_of byte }
 {

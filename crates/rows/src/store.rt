@@ -49,7 +49,7 @@ fn fill(numbers: &mut [u16], rows: u16, size: u16, t: u16, v: u16)
     requires { (rows * size ≤ length numbers.old) × (t < size) }
     ensures { Filled rows size t v numbers.old numbers.new }
 {
-    // By index: after a loop over chunks_exact_mut a proof knows no number.
+    // By index: in a loop over chunks_exact_mut a proof's invariant has no numbers to speak of.
     for i in 0..rows {
         numbers[i as usize * size as usize + t as usize] = v;
     }
