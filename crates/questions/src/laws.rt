@@ -6,19 +6,9 @@ ghost use Rattle.questions.specs.Laws.{Commute, LawfulAt};
 use gmap::map::GMap;
 use gmap::tuple::Tuple;
 
-// Whether switches i and j lead from t to the same tuple in either order.
-// A step of a removal, which knows the tuple and the switches.
-pub fn commute<C: GMap>(map: &C, i: u16, j: u16, t: u16) -> bool
-    requires first { i ≤ (C.Reads.meaning map.now).top }
-    requires second { j ≤ (C.Reads.meaning map.now).top }
-    requires live { (C.Reads.meaning map.now).live t ≡ true }
-    ensures { MatchBool result (Commute (C.Reads.meaning map.now) i j t) (Commute (C.Reads.meaning map.now) i j t → ⊥) }
-{
-    commute_at(&Tuple { map, slot: t }, i, j)
-}
-
-// Whether they do so from a tuple at hand.
-fn commute_at<C: GMap>(tuple: &Tuple<C>, i: u16, j: u16) -> bool
+// Whether switches i and j lead from a tuple to the same one in either order.
+// A step of lawful and of a removal, which know the switches.
+pub fn commute<C: GMap>(tuple: &Tuple<C>, i: u16, j: u16) -> bool
     requires first { i ≤ (C.Reads.meaning tuple.now.map.now).top }
     requires second { j ≤ (C.Reads.meaning tuple.now.map.now).top }
     ensures { MatchBool result (Commute (C.Reads.meaning tuple.now.map.now) i j tuple.now.slot) (Commute (C.Reads.meaning tuple.now.map.now) i j tuple.now.slot → ⊥) }
@@ -32,7 +22,7 @@ fn commutes_above<C: GMap>(tuple: &Tuple<C>, i: u16) -> bool
     ensures { MatchBool result ((j : ℕ) → i + 2 ≤ j → Commute (C.Reads.meaning tuple.now.map.now) i j tuple.now.slot) ((j : ℕ) × (i + 2 ≤ j) × (Commute (C.Reads.meaning tuple.now.map.now) i j tuple.now.slot → ⊥)) }
 {
     for j in i + 2..tuple.map.top() + 1 {
-        if !commute_at(tuple, i, j) {
+        if !commute(tuple, i, j) {
             return false;
         }
     }

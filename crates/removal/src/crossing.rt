@@ -37,7 +37,11 @@ impl<'a, C: GMap> Crossing<'a, C> {
             return false;
         }
         for x in self.members {
-            if !commute(self.map, self.i + 1, self.i + 2, *x) {
+            let tuple = Tuple {
+                map: self.map,
+                slot: *x,
+            };
+            if !commute(&tuple, self.i + 1, self.i + 2) {
                 return true;
             }
         }

@@ -22,6 +22,7 @@ fn admit<C: GMap>(map: &C, k: u16, t: u16, out: usize) -> Result<Tuple<C>, Refus
 }
 
 // One turn: writes x and its partner y in k - 1 as a pair, and answers the partner of y in k, and whether both steps lead on.
+// There is always a next tuple and always the answer whether the steps led on, so they stand beside each other.
 fn turn<'m, C: GMap>(x: &Tuple<'m, C>, k: u16, pair: &mut [u16]) -> (Tuple<'m, C>, bool)
     requires above { 1 ≤ k }
     requires switch { k ≤ (C.Reads.meaning x.now.map.now).top }

@@ -57,7 +57,8 @@ fn rank(members: &[u16], ranks: &mut [u16])
 }
 
 // Writes the i-cell of t upwards to `members` and the place of each of its tuples to `ranks`, and answers how many there are.
-// Each of the three has to have an entry to a slot. What else they hold afterwards is free.
+// Each of the three has to have an entry to a slot. What else they hold afterwards is free: the memory is lent,
+// and how much of it counts is the answer.
 pub fn cell<C: GMap>(
     map: &C,
     i: u16,
