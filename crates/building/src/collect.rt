@@ -46,7 +46,11 @@ impl<C: GMap> Seam<'_, C> {
         requires { Collectable (C.Reads.meaning self.now.map.now) t list.old places.old mates.old }
         ensures { MatchResult result (λ side. Side (C.Reads.meaning self.now.map.now) self.now.i side.now × Collected (C.Reads.meaning self.now.map.now) (Far self.now.i) t (length side.now) side.now × Cleared (C.Reads.meaning self.now.map.now) self.now.i side.now (length side.now) mates.old mates.new) (λ e. (e ≡ Misfit) × ((x : ℕ) × FarOrbit (C.Reads.meaning self.now.map.now) self.now.i t x × (Free (C.Reads.meaning self.now.map.now) self.now.i x → ⊥))) }
     {
-        let side = far_side(self.map, self.i, t, list, places);
+        let tuple = Tuple {
+            map: self.map,
+            slot: t,
+        };
+        let side = far_side(&tuple, self.i, list, places);
         self.clear_side(side, mates)?;
         Ok(side)
     }

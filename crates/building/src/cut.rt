@@ -9,6 +9,7 @@ ghost use Rattle.building.specs.Sides.{Side};
 use crate::side::far_side;
 use gmap::map::GMapMut;
 use gmap::refusal::Refusal;
+use gmap::tuple::Tuple;
 
 // Unties every link in switch i at the tuples of a side, and answers how many there were.
 // A step of part and of a removal, which know the tuples and the switch.
@@ -41,6 +42,14 @@ pub fn part<B: GMapMut>(board: &mut B, i: u16, t: u16, scratch: &mut [u16]) -> R
         return Err(Refusal::NotLinked);
     }
     let (list, places) = scratch.split_at_mut(size);
-    let side = far_side(board, i, t, list, places);
+    let side = far_side(
+        &Tuple {
+            map: board,
+            slot: t,
+        },
+        i,
+        list,
+        places,
+    );
     cut_links(board, i, side)
 }

@@ -7,6 +7,7 @@ ghost use Rattle.building.specs.Mates.{Joinable};
 
 use gmap::map::GMap;
 use gmap::refusal::Refusal;
+use gmap::store::admit_tie;
 
 // Two tuples of a map and the switch to tie them in.
 // The table of mates stands beside it, since each step knows another fact of it.
@@ -24,21 +25,7 @@ impl<'m, C: GMap> Seam<'m, C> {
     pub(crate) fn new(map: &'m C, i: u16, t: u16, u: u16) -> Result<Self, Refusal>
         ensures { Outcome (tie_checks (C.Reads.meaning map.now) i t u) (λ s. (s.map.now ≡ map.now) × (s.i ≡ i) × (s.t ≡ t) × (s.u ≡ u)) (Unit {0}) result }
     {
-        if i > map.top() {
-            return Err(Refusal::NoSwitch);
-        }
-        if t >= map.size() || u >= map.size() {
-            return Err(Refusal::NoSlot);
-        }
-        if !map.is_live(t) || !map.is_live(u) {
-            return Err(Refusal::Vacant);
-        }
-        if t == u {
-            return Err(Refusal::SameTuple);
-        }
-        if map.partner(i, t)? != t || map.partner(i, u)? != u {
-            return Err(Refusal::Linked);
-        }
+        admit_tie(map, i, t, u)?;
         Ok(Seam { map, i, t, u })
     }
 }

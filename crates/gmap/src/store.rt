@@ -1,10 +1,12 @@
 // A storage by what it writes: the acts above it are the same for all.
 ghost use Rattle.std.specs.Prelude.{◌≡◌, ℕ, ◌<◌, MatchBool};
-ghost use Rattle.gmap.specs.Acts.{Couple, marked, tied, untied};
+ghost use Rattle.gmap.specs.Acts.{Couple, marked, tie_checks, tied, untied};
 ghost use Rattle.gmap.specs.Map.{Free, Same};
+ghost use Rattle.gmap.specs.Outcome.{Outcome};
 
 use crate::map::{GMap, GMapMut, Reads};
 use crate::refusal::Refusal;
+use crate::tuple::Tuple;
 
 // What a storage writes. It refuses nothing: whoever calls has looked first.
 pub trait Store: GMap {
@@ -41,6 +43,28 @@ fn is_linked<C: GMap>(map: &C, t: u16) -> bool
     false
 }
 
+// Whether t and u can be tied in switch i, else the refusal.
+pub fn admit_tie<C: GMap>(map: &C, i: u16, t: u16, u: u16) -> Result<(), Refusal>
+    ensures { Outcome (tie_checks (C.Reads.meaning map.now) i t u) (λ _. Unit {0}) (Unit {0}) result }
+{
+    if i > map.top() {
+        return Err(Refusal::NoSwitch);
+    }
+    if t >= map.size() || u >= map.size() {
+        return Err(Refusal::NoSlot);
+    }
+    // What is left to refuse here is a vacant slot.
+    let of_t = map.partner(i, t)?;
+    let of_u = map.partner(i, u)?;
+    if t == u {
+        return Err(Refusal::SameTuple);
+    }
+    if of_t != t || of_u != u {
+        return Err(Refusal::Linked);
+    }
+    Ok(())
+}
+
 impl<S: Store> GMapMut for S {
     fn open_slot(&mut self, t: u16) -> Result<(), Refusal> {
         if t >= self.size() {
@@ -54,12 +78,7 @@ impl<S: Store> GMapMut for S {
     }
 
     fn close_slot(&mut self, t: u16) -> Result<(), Refusal> {
-        if t >= self.size() {
-            return Err(Refusal::NoSlot);
-        }
-        if !self.is_live(t) {
-            return Err(Refusal::Vacant);
-        }
+        Tuple::at(self, t)?;
         if is_linked(self, t) {
             return Err(Refusal::Linked);
         }
@@ -68,21 +87,7 @@ impl<S: Store> GMapMut for S {
     }
 
     fn tie(&mut self, i: u16, t: u16, u: u16) -> Result<(), Refusal> {
-        if i > self.top() {
-            return Err(Refusal::NoSwitch);
-        }
-        if t >= self.size() || u >= self.size() {
-            return Err(Refusal::NoSlot);
-        }
-        // What is left to refuse here is a vacant slot.
-        let of_t = self.partner(i, t)?;
-        let of_u = self.partner(i, u)?;
-        if t == u {
-            return Err(Refusal::SameTuple);
-        }
-        if of_t != t || of_u != u {
-            return Err(Refusal::Linked);
-        }
+        admit_tie(self, i, t, u)?;
         self.link(i, t, u);
         Ok(())
     }

@@ -29,7 +29,8 @@ impl<'m, C: GMap> Tuple<'m, C> {
         Ok(Tuple { map, slot: t })
     }
 
-    // Its partner in a switch that there is.
+    // Its partner in a switch that there is. A switch is a bare number, so that there is one stands in contracts:
+    // a type for it would carry the map beside the tuple once more.
     pub fn partner(&self, i: u16) -> Self
         requires { i ≤ (C.Reads.meaning self.now.map.now).top }
         ensures map { result.map ≡ self.now.map }

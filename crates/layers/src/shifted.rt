@@ -28,10 +28,8 @@ impl<B: GMap> Shifted<B> {
         let first = if size == 0 { 0 } else { first % size };
         Shifted { below, first }
     }
-}
 
-impl<B: GMap> Shifted<B> {
-    // What is left of `first` behind the last round; nothing says that the map below is still the one that it was made over.
+    // What is left of `first` behind the last round. The map below can be exchanged for one of another size, so it is tested again.
     fn rest(&self) -> u16
         requires { 0 < (B.Reads.meaning self.now.below).size }
         ensures { result ≡ self.now.first % (B.Reads.meaning self.now.below).size }

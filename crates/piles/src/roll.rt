@@ -70,14 +70,14 @@ impl fmt::Display for Listing<'_> {
     }
 }
 
-// The orbit of tuple 4.
+// Lists the orbit of tuple 4.
 fn list_orbit<'a, C: GMap>(map: &C, mask: u8, list: &'a mut [u16]) -> Result<Listing<'a>, Refusal> {
     let count = orbit(map, mask, 4, &mut [0; 64], list)?;
     let entries = &list[..count as usize];
     Ok(Listing { count, entries })
 }
 
-// The pieces.
+// Lists the pieces.
 fn list_pieces<'a, C: GMap>(map: &C, list: &'a mut [u16]) -> Result<Listing<'a>, Refusal> {
     let count = cells(map, map.top().saturating_add(1), &mut [0; 64], list)?;
     let entries = &list[..map.size() as usize];

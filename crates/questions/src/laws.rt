@@ -41,7 +41,7 @@ fn lawful_at<C: GMap>(tuple: &Tuple<C>) -> bool
     true
 }
 
-// Whether the map is lawful.
+// Whether the map is lawful. (whole says why its loop is written out too.)
 pub fn lawful<C: GMap>(map: &C) -> bool
     ensures { MatchBool result (Lawful (C.Reads.meaning map.now)) (Lawful (C.Reads.meaning map.now) → ⊥) }
 {

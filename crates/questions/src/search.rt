@@ -16,7 +16,8 @@ use gmap::map::GMap;
 use gmap::tuple::Tuple;
 
 // Whether the scratch or the list is too short for a map. That a short scratch stays as it was is what each call promises
-// of its own argument: a slice that is lent has no type to say it.
+// of its own argument: a slice that is lent has no type to say it, and a function that cut the scratch, or refused,
+// could not say it either, since its answer would hold the loan. So each call tests its scratch and cuts it.
 fn too_short<C: GMap>(map: &C, scratch: usize, out: usize) -> bool
     ensures { MatchBool result (Short (C.Reads.meaning map.now) scratch out) (Short (C.Reads.meaning map.now) scratch out → ⊥) }
 {
@@ -26,6 +27,7 @@ fn too_short<C: GMap>(map: &C, scratch: usize, out: usize) -> bool
 
 // The slots found so far: in front of the list in the order in which they came, and in places the place of each.
 // A slot is found if its place is below the count and the list has it there, so the memory is not cleared first.
+// The memory is lent, so these are two slices with a count, and how much of them counts is what the search answers.
 // Each of the two has a lifetime of its own: with one for both, a caller would not know what the list holds in the end.
 // That the list has just as many places as a map has slots is asked where a tuple comes in: it is the tuple that has the map.
 #[derive(Drop)]

@@ -18,7 +18,8 @@ fn linked_below<C: GMap>(tuple: &Tuple<C>) -> bool
 }
 
 // Whether the map is whole.
-// The loop is that of lawful: one over a closure would say what it answers at every tuple, in more words than the loop has.
+// The loop is that of lawful: one over a closure would say what it answers at every tuple, and an iterator of tuples
+// which slots it yields, each in more words than the loop has.
 pub fn whole<C: GMap>(map: &C) -> bool
     ensures { MatchBool result (Whole (C.Reads.meaning map.now)) (Whole (C.Reads.meaning map.now) → ⊥) }
 {

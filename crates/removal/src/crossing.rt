@@ -7,7 +7,8 @@ use gmap::map::GMap;
 use gmap::tuple::Tuple;
 use questions::commute;
 
-// A cell of all switches but i as a list, with the place there of each of its tuples.
+// An i-cell of a map to be crossed: its tuples as a list, with the place there of each.
+// A search has a test like `has` over the lists that it fills, and a split an edge with places too; each knows other facts of them.
 #[derive(Drop)]
 pub struct Crossing<'a, C: GMap> {
     pub map: &'a C,
@@ -49,6 +50,7 @@ impl<'a, C: GMap> Crossing<'a, C> {
     }
 
     // Where the walk across the cell leads that starts at x. What is in the cell has none: it is answered itself.
+    // A walk that comes back to x leads to x as well: neither gets a link, so the two need not be told apart.
     // The tuples that a walk meets in the cell are different, so it is out after as many steps as the cell has tuples.
     fn walk(&self, x: &Tuple<'a, C>) -> u16
         requires { x.now.map ≡ self.now.map }
@@ -68,6 +70,7 @@ impl<'a, C: GMap> Crossing<'a, C> {
     }
 
     // Lists the tuples beside the cell whose walks lead to others, and writes to `ends` where each leads.
+    // They are counted: not every tuple takes a place.
     pub fn bridge<'b>(&self, borders: &'b mut [u16], ends: &mut [u16]) -> &'b [u16]
         requires borders { (C.Reads.meaning self.now.map.now).size ≤ length borders.old }
         requires ends { (C.Reads.meaning self.now.map.now).size ≤ length ends.old }

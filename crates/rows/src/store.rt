@@ -1,4 +1,4 @@
-// How rows are written.
+// How rows are written. What holds of rows is owed after each write to them, so what belongs together is written through one loan.
 ghost use Rattle.std.specs.Prelude.{◌≡◌, ◌*◌, ◌<◌, ◌≤◌, if◌then◌else◌, length};
 ghost use Rattle.gmap.specs.Acts.{tied, untied};
 ghost use Rattle.gmap.specs.Map.{Free, Same};

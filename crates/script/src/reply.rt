@@ -7,6 +7,7 @@ use gmap::refusal::Refusal;
 use std::fmt;
 
 // What an accepted request comes to. What it lists is borrowed from the list that was lent.
+// The count is of the tuples of an orbit, which are what is listed, or of the cells, where every slot is listed.
 #[derive(Clone, Copy, PartialEq, Eq, Debug)]
 pub enum Reply<'a> {
     Done,
@@ -39,12 +40,13 @@ impl fmt::Display for Reply<'_> {
 }
 
 // A line that is printed: the number of the line that it answers, and the answer.
-#[derive(Clone, Copy, Debug)]
+#[derive(Clone, Copy, PartialEq, Eq, Debug)]
 pub struct Line<'a> {
     pub number: u32,
     pub answer: Result<Reply<'a>, Refusal>,
 }
 
+// The number of the line, OK or NO, and the result or the number of the refusal.
 impl fmt::Display for Line<'_> {
     ghost output = { λ line. Some (printed line.number (answer_of line.answer)) };
 

@@ -14,6 +14,7 @@ pub struct Edge<'a> {
 }
 
 impl Edge<'_> {
+    // These name the struct, so they stand inside.
     ghost use Rattle.gmap.specs.Listing.{Among};
     ghost use Rattle.splitting.specs.Edges.{count, IsBeside};
 

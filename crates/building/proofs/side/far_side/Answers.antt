@@ -5,4 +5,4 @@ use Rattle.building.proofs.side.far_side.Goals as goal
 pub returns : goal.returns
 returns g c =
     let o = c.far_orbit-count.ensures in
-    record { side = front_side _ (g.met.C.GMap.partners c.args.map.now) _ _ _ _ o c.requires.switch c.requires.live (omega (arith, c.requires.room, c.far_orbit-count.auto.list)); collected = collected_front _ _ _ _ _ o }
+    record { side = front_side _ (g.met.C.GMap.partners c.args.tuple.now.map.now) _ _ _ _ o c.requires.switch c.args.tuple.now.live (omega (arith, c.requires.room, c.far_orbit-count.auto.list)); collected = collected_front _ _ _ _ _ o }
