@@ -30,6 +30,7 @@ pub fn cut_links<B: GMapMut>(board: &mut B, i: u16, side: &[u16]) -> Result<u16,
 
 // Unties every link in switch i at the far orbit of t, and answers how many were cut.
 // What the scratch holds afterwards is free, unless it is too short: then it is as it was.
+// Its scratch is tested and cut here: a function that refused or cut for all could not say that a short one is as it was.
 pub fn part<B: GMapMut>(board: &mut B, i: u16, t: u16, scratch: &mut [u16]) -> Result<u16, Refusal>
     ensures outcome { Outcome (part_checks (B.Reads.meaning board.old) (length scratch.old) i t) (λ n. Parted (B.Reads.meaning board.old) i t n (B.Reads.meaning board.new)) (Same (B.Reads.meaning board.new) (B.Reads.meaning board.old)) result }
     ensures spared { length scratch.old < 4 * (B.Reads.meaning board.old).size → scratch.new ≡ scratch.old }

@@ -34,6 +34,7 @@ pub fn tie_pairs<B: GMapMut>(
 
 // Ties t and u in switch i, and with them their partners in all far switches; answers how many links that makes.
 // What the scratch holds afterwards is free, unless it is too short: then it is as it was.
+// Its scratch is tested and cut here: a function that refused or cut for all could not say that a short one is as it was.
 pub fn join<B: GMapMut>(
     board: &mut B,
     i: u16,

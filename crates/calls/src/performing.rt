@@ -37,7 +37,7 @@ fn vouch<B: GMapMut>(board: &B)
 
 // Carries out a call, and answers what it comes to.
 // What is promised of every board that was empty once and was then changed by calls alone stands on this contract.
-// What the scratch holds afterwards is free, unless it is too short: then it is as it was.
+// What the scratch holds afterwards is free, unless it is too short: then it is as it was, which no type of a lent slice says.
 pub fn perform<B: GMapMut>(
     board: &mut B,
     call: Call,

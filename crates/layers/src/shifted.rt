@@ -29,7 +29,8 @@ impl<B: GMap> Shifted<B> {
         Shifted { below, first }
     }
 
-    // What is left of `first` behind the last round. The map below can be exchanged for one of another size, so it is tested again.
+    // What is left of `first` behind the last round. The map below can be exchanged for one of another size,
+    // so `first` is compared with its size again.
     fn rest(&self) -> u16
         requires { 0 < (B.Reads.meaning self.now.below).size }
         ensures { result ≡ self.now.first % (B.Reads.meaning self.now.below).size }

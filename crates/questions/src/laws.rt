@@ -16,7 +16,7 @@ pub fn commute<C: GMap>(tuple: &Tuple<C>, i: u16, j: u16) -> bool
     tuple.partner(j).partner(i).slot == tuple.partner(i).partner(j).slot
 }
 
-// Whether switch i commutes at a tuple with those that are two or more above it.
+// Whether switch i commutes at a tuple with those that are two or more above it. (That i is a switch is a clause, as in Tuple::partner.)
 fn commutes_above<C: GMap>(tuple: &Tuple<C>, i: u16) -> bool
     requires { i ≤ (C.Reads.meaning tuple.now.map.now).top }
     ensures { MatchBool result ((j : ℕ) → i + 2 ≤ j → Commute (C.Reads.meaning tuple.now.map.now) i j tuple.now.slot) ((j : ℕ) × (i + 2 ≤ j) × (Commute (C.Reads.meaning tuple.now.map.now) i j tuple.now.slot → ⊥)) }
@@ -41,7 +41,7 @@ fn lawful_at<C: GMap>(tuple: &Tuple<C>) -> bool
     true
 }
 
-// Whether the map is lawful. (whole says why its loop is written out too.)
+// Whether the map is lawful. The loop is that of whole, which says why it is written out.
 pub fn lawful<C: GMap>(map: &C) -> bool
     ensures { MatchBool result (Lawful (C.Reads.meaning map.now)) (Lawful (C.Reads.meaning map.now) → ⊥) }
 {

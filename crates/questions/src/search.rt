@@ -60,7 +60,7 @@ impl<'l, 'p> Found<'l, 'p> {
         &self.list[..self.count as usize]
     }
 
-    // Whether slot x is found.
+    // Whether slot x is found. (A removal has the like of a cell, and knows other facts of it.)
     fn has(&self, x: u16) -> bool
         requires { x < length self.now.list.now }
         ensures { MatchBool result (Among self.now.list.now self.now.count x) (Among self.now.list.now self.now.count x → ⊥) }

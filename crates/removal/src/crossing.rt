@@ -50,7 +50,7 @@ impl<'a, C: GMap> Crossing<'a, C> {
     }
 
     // Where the walk across the cell leads that starts at x. What is in the cell has none: it is answered itself.
-    // A walk that comes back to x leads to x as well: neither gets a link, so the two need not be told apart.
+    // A walk that comes back to x leads to x as well: neither gets a link, so an Option would only be taken apart again.
     // The tuples that a walk meets in the cell are different, so it is out after as many steps as the cell has tuples.
     fn walk(&self, x: &Tuple<'a, C>) -> u16
         requires { x.now.map ≡ self.now.map }

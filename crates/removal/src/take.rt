@@ -50,6 +50,7 @@ fn take_out<B: GMapMut>(
 
 // Takes the i-cell of t out of the map, and answers how many tuples it had. The tuples around it become partners across it.
 // What the scratch holds afterwards is free, unless it is too short: then it is as it was.
+// Its scratch is tested and cut here: a function that refused or cut for all could not say that a short one is as it was.
 pub fn remove<B: GMapMut>(
     board: &mut B,
     i: u16,

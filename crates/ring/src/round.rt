@@ -22,7 +22,7 @@ fn admit<C: GMap>(map: &C, k: u16, t: u16, out: usize) -> Result<Tuple<C>, Refus
 }
 
 // One turn: writes x and its partner y in k - 1 as a pair, and answers the partner of y in k, and whether both steps lead on.
-// There is always a next tuple and always the answer whether the steps led on, so they stand beside each other.
+// Neither is there without the other, so a tuple is plainest.
 fn turn<'m, C: GMap>(x: &Tuple<'m, C>, k: u16, pair: &mut [u16]) -> (Tuple<'m, C>, bool)
     requires above { 1 ≤ k }
     requires switch { k ≤ (C.Reads.meaning x.now.map.now).top }
@@ -66,6 +66,7 @@ fn go_round<C: GMap>(start: Tuple<C>, k: u16, out: &mut [u16]) -> (u16, bool)
 
 // Starts at t and takes switch k - 1 at odd steps and k at even ones, up to the first even step that is back at t.
 // Writes the steps before that one to the list, and answers how many they are and whether no tuple met is free in k - 1 or k.
+// The list is lent; how much of it counts is one part of the answer. Callers read both as plain values.
 pub fn ring<C: GMap>(map: &C, k: u16, t: u16, out: &mut [u16]) -> Result<(u16, bool), Refusal>
     ensures outcome { Outcome (ring_checks (C.Reads.meaning map.now) (length out.old) k t) (λ a. Ring (C.Reads.meaning map.now) k t a out.old out.new) (out.new ≡ out.old) result }
     ensures orbit { IfOk result (λ a. Encircles (C.Reads.meaning map.now) k t a.0 out.new) }

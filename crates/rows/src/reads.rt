@@ -22,7 +22,7 @@ impl<'a> Reads for Rows<'a> {
         t < self.size && self.look(0, t).is_some()
     }
 
-    // Each storage tests and looks in its own way: here a vacant slot is told by the look itself.
+    // Each storage tests and looks in its own way; these four questions are the trait's. Here a vacant slot is told by the look itself.
     fn partner(&self, i: u16, t: u16) -> Result<u16, Refusal> {
         if i > self.top {
             return Err(Refusal::NoSwitch);

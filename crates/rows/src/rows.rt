@@ -15,7 +15,7 @@ pub struct Rows<'a> {
 }
 
 impl Rows<'_> {
-    // Where number t of row i stands.
+    // Where number t of row i stands. (That i is a switch is a clause, as in Tuple::partner.)
     pub(crate) fn place(&self, i: u16, t: u16) -> usize
         requires switch { i ≤ self.now.top }
         requires slot { t < self.now.size }

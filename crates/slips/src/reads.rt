@@ -25,6 +25,7 @@ impl<'a> Reads for Slips<'a> {
         t < self.size && matches!(self.records[t as usize], Record::Slot)
     }
 
+    // Each storage tests and looks in its own way; these four questions are the trait's.
     fn partner(&self, i: u16, t: u16) -> Result<u16, Refusal> {
         if i > self.top {
             return Err(Refusal::NoSwitch);

@@ -18,6 +18,7 @@ impl Slips<'_> {
         }
     }
 
+    // (That i is a switch is a clause, here and above, as in Tuple::partner.)
     // Where in the block of switch i a record that passes a test stands: the first that does.
     pub(crate) fn find<F: Fn(Record) -> bool>(&self, i: u16, test: F) -> Option<usize>
         requires switch { i ≤ self.now.top }

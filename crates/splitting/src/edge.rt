@@ -3,6 +3,7 @@ ghost use Rattle.std.specs.Prelude.{◌≡◌, ℕ, ◌+◌, ◌<◌, ◌≤◌,
 
 // The tuples of the edge, the place of each in their list, and the first of the numbers of the new tuples.
 // A new tuple stands beside each of the edge; they are numbered upwards in the order of the list.
+// A removal has a cell with places too, and knows other facts of it.
 #[derive(Drop)]
 pub struct Edge<'a> {
     pub members: &'a [u16],
@@ -14,7 +15,7 @@ pub struct Edge<'a> {
 }
 
 impl Edge<'_> {
-    // These name the struct, so they stand inside.
+    // The definitions of Edges name `Edge`, so their use stands inside its impl.
     ghost use Rattle.gmap.specs.Listing.{Among};
     ghost use Rattle.splitting.specs.Edges.{count, IsBeside};
 

@@ -56,6 +56,7 @@ fn add_vertex<B: GMapMut>(
 // Puts a new vertex on the edge of t, with a new tuple beside each tuple of the edge; these are numbered upwards from f on.
 // Answers f and how many new tuples there are.
 // What the scratch holds afterwards is free, unless it is too short: then it is as it was.
+// Its scratch is tested and cut here: a function that refused or cut for all could not say that a short one is as it was.
 pub fn split<B: GMapMut>(
     board: &mut B,
     t: u16,

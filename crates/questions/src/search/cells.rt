@@ -53,7 +53,7 @@ fn is_unlabelled<C: GMap>(map: &C, t: u16, out: &[u16]) -> bool
     map.is_live(t) && out[t as usize] == VACANT
 }
 
-// Labels the cells by their lowest tuples, and answers how many there are.
+// Labels the cells by their lowest tuples, and answers how many there are. The loop is written out, as that of whole.
 fn label_all<C: GMap>(map: &C, i: u16, found: &mut Found, out: &mut [u16]) -> u16
     requires size { length found.old.list.now ≡ (C.Reads.meaning map.now).size }
     requires room { (C.Reads.meaning map.now).size ≤ length out.old }
@@ -73,6 +73,7 @@ fn label_all<C: GMap>(map: &C, i: u16, found: &mut Found, out: &mut [u16]) -> u1
 }
 
 // Writes for each slot the lowest tuple of its i-cell, or 65,535 if it is vacant, and answers how many cells there are.
+// The list is lent, with an entry for each slot.
 // With i one above the top no switch is left out. What the scratch holds afterwards is free, unless it is too short: then it is as it was.
 pub fn cells<C: GMap>(map: &C, i: u16, scratch: &mut [u16], out: &mut [u16]) -> Result<u16, Refusal>
     ensures outcome { Outcome (cells_checks (C.Reads.meaning map.now) (length scratch.old) (length out.old) i) (λ n. Labelled (C.Reads.meaning map.now) i n out.old out.new) (out.new ≡ out.old) result }

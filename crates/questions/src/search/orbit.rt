@@ -54,6 +54,7 @@ fn write_orbit<C: GMap>(tuple: &Tuple<C>, mask: u8, scratch: &mut [u16], out: &m
 
 // Writes the orbit of t under the switches of the mask upwards to the list, and answers how many tuples it has.
 // A mask is the number that scripts and callers have; the search takes it as a set of switches.
+// The list is lent; how much of it counts is the answer.
 // What the scratch holds afterwards is free, unless it is too short: then it is as it was.
 pub fn orbit<C: GMap>(
     map: &C,
