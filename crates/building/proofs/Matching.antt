@@ -116,7 +116,7 @@ module _ (m : Map) (law : Partners m) (i t u : ℕ) (able : Joinable m i t u) wh
     abbrev pub x : ℕ
     x = get_or xs k 0
 
-    pairing_side : OnSides m i t u x
+    pub pairing_side : OnSides m i t u x
     pairing_side = inl (o.only k below)
 
     -- a tuple is met only after the one that it was found from

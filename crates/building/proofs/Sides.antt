@@ -31,7 +31,13 @@ module _ (m : Map) (via : ℕ → Type 0) (t n : ℕ) (xs : List ℕ) (o : Colle
         from = λ k z h. let l : k < n = omega (arith, long) in let (p, i, b, on, e) = o.from k z l in (p, i, b, on, at k l ∙ e ∙ ap (m.partner i) (sym (at p (omega arith))));
       }
 
-  front_few : length front ≤ length xs
+  pub front_among : (x : ℕ) → Among front (length front) x → Among xs n x
+  front_among x (k, h, e) = let l : k < n = omega (arith, long) in (k, l, sym (at k l) ∙ e)
+
+  pub among_front : (x : ℕ) → Among xs n x → Among front (length front) x
+  among_front x (k, h, e) = (k, omega (arith, long), at k h ∙ e)
+
+  pub front_few : length front ≤ length xs
   front_few = omega (arith, long, o.fits)
 
 module _ (m : Map) (law : Partners m) (i t n : ℕ) (xs : List ℕ) (o : Collected m (Far i) t n xs) where

@@ -72,7 +72,7 @@ module _ (m : Map) (i : ℕ) (xs ms : List ℕ) (c : ℕ) (able : Tieable m i xs
   free_x : (Before x y → ⊥) → Free now i x
   free_x new = s.rest x (λ b r. new (subst (Before x) (from_x b r) r)) ∙ able.free k below
 
-  free_y : (Before x y → ⊥) → Free now i y
+  pub free_y : (Before x y → ⊥) → Free now i y
   free_y new = s.rest y (λ b r. new (from_y b r)) ∙ able.mate_free k below
 
   -- so the tie is accepted

@@ -1,8 +1,8 @@
--- When a tie is not refused, and what a tie and an untie leave.
+-- When a tie and an untie are not refused, and what they leave.
 use Rattle.std.proofs.Common.{◌≡◌, ℕ, ◌≤◌, true, false, ◌&&◌, eqb, sym, refl, inl, inr, ⊎_elim, arith}
 use Rattle.std.proofs.lemmas.Bool.{both_ways, cases_eq, eq-eqb, ne_eqb, and_left, and_right}
 use Rattle.gmap.specs.Map.{Map, Partners, Free, DiffersIn}
-use Rattle.gmap.specs.Acts.{tie_checks, tied, untied}
+use Rattle.gmap.specs.Acts.{tie_checks, tied, untie_checks, untied}
 use Rattle.gmap.specs.Outcome.{First}
 use Rattle.gmap.specs.declared.refusal.Refusal.{Refusal}
 
@@ -11,6 +11,13 @@ named : (j i x t : ℕ) → ((j ≡ i) × (x ≡ t) → ⊥) → (eqb j i && eqb
 named j i x t n = ⊎_elim (λ e. and_right (eqb j i) (eqb x t) (ne_eqb x t (λ f. n (e, f)))) (λ e. and_left (eqb j i) (eqb x t) (ne_eqb j i e)) (cases_eq j i)
 
 module _ (m : Map) (law : Partners m) (i t : ℕ) (low : i ≤ m.top) (live : m.live t ≡ true) where
+  pub untie_accepted : (e : Refusal) → (Free m i t → ⊥) → First (untie_checks m i t) e → ⊥
+  untie_accepted e tied (inl (h, q)) = omega arith
+  untie_accepted e tied (inr (h, inl (k, q))) = omega (arith, law.inside t live)
+  untie_accepted e tied (inr (h, inr (k, inl (v, q)))) = both_ways (m.live t) v live
+  untie_accepted e tied (inr (h, inr (k, inr (v, inl (f, q))))) = tied f
+  untie_accepted e tied (inr (h, inr (k, inr (v, inr (f, none))))) = none
+
   pub tie_accepted : (u : ℕ) → m.live u ≡ true → (t ≡ u → ⊥) → Free m i t → Free m i u → (e : Refusal) → First (tie_checks m i t u) e → ⊥
   tie_accepted u live' apart free free' e (inl (h, q)) = omega arith
   tie_accepted u live' apart free free' e (inr (h, inl (k, q))) = ⊎_elim (λ l. omega (arith, law.inside t live)) (λ l. omega (arith, law.inside u live')) k

@@ -53,13 +53,17 @@ pub fn admit_tie<C: GMap>(map: &C, i: u16, t: u16, u: u16) -> Result<(), Refusal
     if t >= map.size() || u >= map.size() {
         return Err(Refusal::NoSlot);
     }
-    // What is left to refuse here is a vacant slot.
-    let of_t = map.partner(i, t)?;
-    let of_u = map.partner(i, u)?;
+    if !map.is_live(t) || !map.is_live(u) {
+        return Err(Refusal::Vacant);
+    }
     if t == u {
         return Err(Refusal::SameTuple);
     }
-    if of_t != t || of_u != u {
+    // Partners are looked up last: where a look is a search, what is refused above costs none.
+    if map.partner(i, t)? != t {
+        return Err(Refusal::Linked);
+    }
+    if map.partner(i, u)? != u {
         return Err(Refusal::Linked);
     }
     Ok(())

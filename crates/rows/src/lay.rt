@@ -1,6 +1,6 @@
 // What fits into memory that is lent, and the empty storage in it.
 // Rows and slips each have these: one for both would need a trait with a type of places and a lifetime, for two short bodies.
-ghost use Rattle.std.specs.Prelude.{◌≡◌, [], ◌∷◌, length};
+ghost use Rattle.std.specs.Prelude.{◌≡◌, [], ◌∷◌, ◌++◌, length, drop, replicate};
 ghost use Rattle.gmap.specs.Laying.{rows_need, TooLarge, Laid};
 ghost use Rattle.gmap.specs.Map.{Fresh};
 ghost use Rattle.gmap.specs.Outcome.{Outcome};
@@ -34,10 +34,11 @@ pub fn lay_out<'a>(memory: &'a mut [u16], top: u16, size: u16) -> Rows<'a>
     }
 }
 
-// Rows of that top and size, every slot vacant.
+// Rows of that top and size, every slot vacant. What lies behind the rows is as before.
 #[tactic(auto, using(crate::proofs::Vacant::vacant_sound, crate::proofs::Vacant::vacant_fresh))]
 fn empty<'a>(memory: &'a mut [u16], top: u16, size: u16) -> Rows<'a>
     requires { TooLarge (length memory.old) (rows_need top size) top size → ⊥ }
+    ensures numbers { result.numbers.now ≡ replicate (rows_need top size) 65535 ++ drop (rows_need top size) memory.old }
     ensures fresh { Fresh (map_of result) }
     ensures top { result.top ≡ top }
     ensures size { result.size ≡ size }

@@ -1,5 +1,6 @@
 // How rows are written. What holds of rows is owed after each write to them, so what belongs together is written through one loan.
 ghost use Rattle.std.specs.Prelude.{◌≡◌, ◌*◌, ◌<◌, ◌≤◌, if◌then◌else◌, length};
+ghost use Rattle.std.specs.List.{SwappedAt};
 ghost use Rattle.gmap.specs.Acts.{tied, untied};
 ghost use Rattle.gmap.specs.Map.{Free, Same};
 ghost use Rattle.rows.specs.Changes.{FreeOrPartners};
@@ -33,8 +34,19 @@ impl Rows<'_> {
     {
         let p = self.place(i, t);
         let q = self.place(i, u);
-        self.numbers.swap(p, q);
+        swap(&mut *self.numbers, p, q);
     }
+}
+
+// Exchanges two numbers. The library's swap tests first which of the two places comes before the other, and tuples that are tied come in no order.
+fn swap(numbers: &mut [u16], p: usize, q: usize)
+    requires { (p < length numbers.old) × (q < length numbers.old) }
+    ensures len { length numbers.new ≡ length numbers.old }
+    ensures by_index { SwappedAt numbers.old numbers.new p q }
+{
+    let number = numbers[p];
+    numbers[p] = numbers[q];
+    numbers[q] = number;
 }
 
 // The number of a slot that is free in every switch: its own if it is live.

@@ -1,5 +1,6 @@
 // What a request is answered with, and how an answer is printed.
-ghost use Rattle.std.specs.Prelude.{Some};
+ghost use Rattle.std.specs.Prelude.{◌∷◌, Some, decimal};
+ghost use Rattle.std.specs.Fmt.{WritesOnOk};
 ghost use Rattle.script.specs.Printing.{spaced, printed};
 ghost use Rattle.script.specs.Replies.{values_of, answer_of};
 
@@ -16,6 +17,14 @@ pub enum Reply<'a> {
     Listed { count: u16, entries: &'a [u16] },
 }
 
+// Writes a number behind a space. It is written in two, since a format would cost more than its digits.
+fn put<W: fmt::Write>(f: &mut fmt::Formatter<W>, number: u16) -> fmt::Result
+    ensures { WritesOnOk W.Write.write_str_gives f.old result (32 ∷ decimal number) f.new }
+{
+    f.write_str(" ")?;
+    f.write(number)
+}
+
 // Each number behind a space.
 impl fmt::Display for Reply<'_> {
     ghost output = { λ reply. Some (spaced (values_of reply)) };
@@ -23,15 +32,12 @@ impl fmt::Display for Reply<'_> {
     fn fmt<W: fmt::Write>(&self, f: &mut fmt::Formatter<W>) -> fmt::Result {
         match self {
             Reply::Done => Ok(()),
-            Reply::Count(count) => write!(f, " {count}"),
-            Reply::Truth(holds) => {
-                let truth = u16::from(*holds);
-                write!(f, " {truth}")
-            }
+            Reply::Count(count) => put(f, *count),
+            Reply::Truth(holds) => put(f, u16::from(*holds)),
             Reply::Listed { count, entries } => {
-                write!(f, " {count}")?;
+                put(f, *count)?;
                 for entry in *entries {
-                    write!(f, " {entry}")?;
+                    put(f, *entry)?;
                 }
                 Ok(())
             }
@@ -51,10 +57,17 @@ impl fmt::Display for Line<'_> {
     ghost output = { λ line. Some (printed line.number (answer_of line.answer)) };
 
     fn fmt<W: fmt::Write>(&self, f: &mut fmt::Formatter<W>) -> fmt::Result {
-        let number = self.number;
+        f.write(self.number)?;
         match self.answer {
-            Ok(reply) => write!(f, "{number} OK{reply}\n"),
-            Err(refusal) => write!(f, "{number} NO {refusal}\n"),
+            Ok(reply) => {
+                f.write_str(" OK")?;
+                f.write(reply)?;
+            }
+            Err(refusal) => {
+                f.write_str(" NO")?;
+                put(f, refusal.code())?;
+            }
         }
+        f.write_str("\n")
     }
 }

@@ -11,7 +11,7 @@
 --   Apart      they are two
 --   Single     a tuple has one link in a switch
 --   Sound      what holds of the records of every storage
---   Hit        a record of a block passes a test
+--   Hit        the first record of a block that passes a test
 --   Found      where such a record stands, if there is one
 use Rattle.std.specs.Prelude.{◌≡◌, ℕ, zero, suc, ◌+◌, ◌*◌, ◌/◌, ◌<◌, ◌≤◌, Bool, true, false, cond, ◌&&◌, List, length, Option, MatchOption, ◌≢◌, nat_le, nat_lt, slice_index_or}
 use Rattle.gmap.specs.Map.{Map}
@@ -77,12 +77,13 @@ pub record Sound (top size : ℕ) (rs : List Record) : Type 0 where
   pub apart : Apart top size rs
   pub single : Single top size rs
 
--- Record p is record k of the block of switch i, and passes.
+-- Record p is record k of the block of switch i, and is the first there that passes.
 pub record Hit (rs : List Record) (size i : ℕ) (test : Record → Bool → Type 0) (p : ℕ) : Type 0 where
   pub k : ℕ
   pub within : k < size / 2
   pub at : p ≡ size + i * (size / 2) + k
   pub passes : test (link_at rs size i k) true
+  pub before : (j : ℕ) → j < k → test (link_at rs size i j) false
 
 abbrev pub Found : List Record → ℕ → ℕ → (Record → Bool → Type 0) → Option ℕ → Type 0
 Found rs size i test r = MatchOption r ((k : ℕ) → k < size / 2 → test (link_at rs size i k) false) (Hit rs size i test)

@@ -13,6 +13,6 @@ loop-entry-preserved g c = λ plain.
 
 pub returns-after-loop-entry-clause-writes : goal.returns-after-loop-entry-clause-writes
 returns-after-loop-entry-clause-writes g c = λ plain ok.
-    let count = c.in_ok-write-in-Listed.ensures.writes plain ok in
+    let count = c.in_ok-put-in-Listed.ensures plain ok in
     let all = ap (λ entries. spaced (c.in-Listed.count ∷ entries)) (take_all _ _ c.loop-entry-test.false) in
     rw c.in-Listed.is (has_written_of_eq _ _ _ _ _ all (has_written_append _ _ _ _ _ _ count (c.loop-entry.invariant count.plain)))
