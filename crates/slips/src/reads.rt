@@ -58,5 +58,10 @@ impl Slips<'_> {
 fn count_used(records: &[Record]) -> usize
     ensures { result ≡ length (filter says_something records.now) }
 {
-    records.iter().filter(|r| r.is_used()).count()
+    let mut count = 0;
+    // A sum, since a filter that is counted costs a third more.
+    for record in records {
+        count += usize::from(record.is_used());
+    }
+    count
 }

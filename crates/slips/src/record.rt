@@ -26,7 +26,7 @@ impl Record {
     pub(crate) fn is_used(self) -> bool
         ensures { result ≡ says_something self }
     {
-        !matches!(self, Record::Unused)
+        self != Record::Unused
     }
 
     // Whether the record is a link of t.
