@@ -6,6 +6,7 @@ ghost use Rattle.script.specs.Replies.{values_of, answer_of};
 
 use gmap::refusal::Refusal;
 use std::fmt;
+use std::fmt::Display;
 
 // What an accepted request comes to. What it lists is borrowed from the list that was lent.
 // The count is of the tuples of an orbit, which are what is listed, or of the cells, where every slot is listed.
@@ -22,7 +23,7 @@ fn put<W: fmt::Write>(f: &mut fmt::Formatter<W>, number: u16) -> fmt::Result
     ensures { WritesOnOk W.Write.write_str_gives f.old result (32 ∷ decimal number) f.new }
 {
     f.write_str(" ")?;
-    f.write(number)
+    number.fmt(f)
 }
 
 // Each number behind a space.
@@ -57,11 +58,11 @@ impl fmt::Display for Line<'_> {
     ghost output = { λ line. Some (printed line.number (answer_of line.answer)) };
 
     fn fmt<W: fmt::Write>(&self, f: &mut fmt::Formatter<W>) -> fmt::Result {
-        f.write(self.number)?;
+        self.number.fmt(f)?;
         match self.answer {
             Ok(reply) => {
                 f.write_str(" OK")?;
-                f.write(reply)?;
+                reply.fmt(f)?;
             }
             Err(refusal) => {
                 f.write_str(" NO")?;
